@@ -1,0 +1,66 @@
+-- Cutting at a separator: where the first one stands, and one part at a time.
+use mathlib.Core.Path.{_≡_, refl, sym, ap, _∙_}
+use mathlib.Core.Bool.{Bool, true, false, cond}
+use mathlib.Core.Logic.{⊎-elim}
+use mathlib.Core.List.{List, [], _∷_}
+use Prim.Native.Nat.{ℕ, zero, suc, _+_, _-_, _≤_, _<_}
+use native.Mathlib.Omega.{arith}
+use native.Mathlib.Nat.{sub-zero}
+use native.Mathlib.Numerals.{add-one}
+use lib.Dec.{eqb}
+use lib.ListN.{length, getD, take, drop}
+use borrow.Author.Tests.{ne-eqb, eq-eqb}
+use Rattle.std.proofs.shelf.Lists.{take-rest}
+use Rattle.std.specs.Options.{mapped}
+use Rattle.std.specs.declared.option.Option.{Option}
+use Rattle.std.specs.declared.option.Option.the-variants.{None, Some}
+use Rattle.trace.specs.Cuts.{split-once, split, onto-first}
+
+abbrev Before : ℕ → List ℕ → ℕ → Type 0
+Before s xs i = (k : ℕ) → k < i → getD xs k 0 ≡ s → ⊥
+
+pub split-once-at : (s : ℕ) (xs : List ℕ) (i : ℕ) → Before s xs i → i < length xs → getD xs i 0 ≡ s →
+    split-once s xs ≡ Some (take i xs, drop (suc i) xs)
+split-once-at s [] i none within here = absurd (let no : ⊥ = omega arith in no)
+split-once-at s (c ∷ cs) zero none within here = ap (λ b. cond b (Some ([], cs)) (mapped (λ p. (c ∷ p .0, p .1)) (split-once s cs))) (eq-eqb c s here)
+split-once-at s (c ∷ cs) (suc i) none within here =
+    ap (λ b. cond b (Some ([], cs)) (mapped (λ p. (c ∷ p .0, p .1)) (split-once s cs))) (ne-eqb c s (none 0 (omega arith)))
+    ∙ ap (mapped (λ p. (c ∷ p .0, p .1))) (split-once-at s cs i (λ k h. none (suc k) (omega arith)) (omega arith) here)
+
+pub split-once-none : (s : ℕ) (xs : List ℕ) → Before s xs (length xs) → split-once s xs ≡ None
+split-once-none s [] none = refl
+split-once-none s (c ∷ cs) none =
+    ap (λ b. cond b (Some ([], cs)) (mapped (λ p. (c ∷ p .0, p .1)) (split-once s cs))) (ne-eqb c s (none 0 (omega arith)))
+    ∙ ap (mapped (λ p. (c ∷ p .0, p .1))) (split-once-none s cs (λ k h. none (suc k) (omega arith)))
+
+-- the same, with the two parts as the code takes them
+pub cut-at : (s : ℕ) (xs : List ℕ) (i : ℕ) → Before s xs i → i < length xs → getD xs i 0 ≡ s →
+    Some (take (i - 0) xs, take (length xs - (i + 1)) (drop (i + 1) xs)) ≡ split-once s xs
+cut-at s xs i none within here =
+    (λ j. Some (take (sub-zero i j) xs, (take-rest xs (i + 1) ∙ ap (λ n. drop n xs) (add-one i)) j)) ∙ sym (split-once-at s xs i none within here)
+
+-- all parts, from the first cut
+abbrev parts-from : ℕ → List ℕ → Option (List ℕ × List ℕ) → List (List ℕ)
+parts-from s xs None = xs ∷ []
+parts-from s xs (Some p) = p .0 ∷ split s (p .1)
+
+parts-onto : (s c : ℕ) (cs : List ℕ) (o : Option (List ℕ × List ℕ)) →
+    onto-first c (parts-from s cs o) ≡ parts-from s (c ∷ cs) (mapped (λ p. (c ∷ p .0, p .1)) o)
+parts-onto s c cs None = refl
+parts-onto s c cs (Some p) = refl
+
+pub split-by-cut : (s : ℕ) (xs : List ℕ) → split s xs ≡ parts-from s xs (split-once s xs)
+split-by-cut s [] = refl
+split-by-cut s (c ∷ cs) = go (eqb c s) (split-by-cut s cs)
+  where
+    go : (b : Bool) → split s cs ≡ parts-from s cs (split-once s cs) →
+        cond b ([] ∷ split s cs) (onto-first c (split s cs))
+        ≡ parts-from s (c ∷ cs) (cond b (Some ([], cs)) (mapped (λ p. (c ∷ p .0, p .1)) (split-once s cs)))
+    go true e = refl
+    go false e = ap (onto-first c) e ∙ parts-onto s c cs (split-once s cs)
+
+pub split-more : (s : ℕ) (xs front rest : List ℕ) → Some (front, rest) ≡ split-once s xs → split s xs ≡ front ∷ split s rest
+split-more s xs front rest e = split-by-cut s xs ∙ ap (parts-from s xs) (sym e)
+
+pub split-last : (s : ℕ) (xs : List ℕ) → None ≡ split-once s xs → split s xs ≡ xs ∷ []
+split-last s xs e = split-by-cut s xs ∙ ap (parts-from s xs) (sym e)
