@@ -9,8 +9,8 @@ use Rattle.std.specs.declared.option.Option.{Option}
 use Rattle.std.specs.declared.option.Option.the-variants.{None, Some}
 use Rattle.std.specs.declared.result.Result.{Result}
 use Rattle.std.specs.declared.result.Result.the-variants.{Ok, Err}
-use Rattle.calls.specs.declared.Call.{Call}
-use Rattle.calls.specs.declared.Call.the-variants.{Open, Enter, Start, Finish}
+use Rattle.calls.specs.declared.call.Call.{Call}
+use Rattle.calls.specs.declared.call.Call.the-variants.{Open, Enter, Start, Finish}
 use Rattle.trace.specs.declared.fault.BadNumber.{BadNumber}
 use Rattle.trace.specs.declared.fault.FieldFault.{FieldFault}
 use Rattle.trace.specs.declared.fault.FieldFault.the-variants.{Malformed, Number}

@@ -17,7 +17,7 @@ use crate::field::Key;
 use crate::field::Order;
 use crate::field::read_field;
 use crate::number::read_number;
-use calls::Call;
+use calls::call::Call;
 
 // The most octets that a line may have, octet 10 not counted.
 pub const LONGEST: usize = 80;
