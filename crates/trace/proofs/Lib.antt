@@ -1,2 +1,3 @@
 pub mod Digits
 pub mod Parts
+pub mod Writing

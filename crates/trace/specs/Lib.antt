@@ -3,3 +3,4 @@ pub mod Faults
 pub mod Fields
 pub mod Lines
 pub mod Numbers
+pub mod Texts
