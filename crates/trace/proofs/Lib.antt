@@ -1,3 +1,6 @@
 pub mod Digits
+pub mod FirstFault
+pub mod OneText
 pub mod Parts
+pub mod ReadBack
 pub mod Writing

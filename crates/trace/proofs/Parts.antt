@@ -2,7 +2,7 @@
 use mathlib.Core.Path.{_≡_, refl, sym, ap, _∙_}
 use mathlib.Core.Bool.{Bool, true, false, cond}
 use mathlib.Core.Logic.{⊎-elim}
-use mathlib.Core.List.{List, [], _∷_}
+use mathlib.Core.List.{List, [], _∷_, _++_}
 use Prim.Native.Nat.{ℕ, zero, suc, _+_, _-_, _≤_, _<_}
 use native.Mathlib.Omega.{arith}
 use native.Mathlib.Nat.{sub-zero}
@@ -11,10 +11,14 @@ use lib.Dec.{eqb}
 use lib.ListN.{length, getD, take, drop}
 use borrow.Author.Tests.{ne-eqb, eq-eqb}
 use Rattle.std.proofs.shelf.Lists.{take-rest}
+use Rattle.std.proofs.shelf.Tests.{cond-both, eqb-true, eqb-false}
+use Rattle.std.specs.shelf.Lists.{All}
 use Rattle.std.specs.Options.{mapped}
 use Rattle.std.specs.declared.option.Option.{Option}
 use Rattle.std.specs.declared.option.Option.the-variants.{None, Some}
 use Rattle.trace.specs.Cuts.{split-once, split, onto-first}
+use Rattle.trace.specs.Laws.{Parts-are-between-separators}
+use Rattle.trace.specs.Texts.{join}
 
 abbrev Before : ℕ → List ℕ → ℕ → Type 0
 Before s xs i = (k : ℕ) → k < i → getD xs k 0 ≡ s → ⊥
@@ -64,3 +68,65 @@ split-more s xs front rest e = split-by-cut s xs ∙ ap (parts-from s xs) (sym e
 
 pub split-last : (s : ℕ) (xs : List ℕ) → None ≡ split-once s xs → split s xs ≡ xs ∷ []
 split-last s xs e = split-by-cut s xs ∙ ap (parts-from s xs) (sym e)
+
+-- ---- splitting and joining
+
+abbrev Lacks : ℕ → List ℕ → Type 0
+Lacks s part = All (λ c. c ≡ s → ⊥) part
+
+join-empty : (s : ℕ) (parts : List (List ℕ)) → 0 < length parts → join s ([] ∷ parts) ≡ s ∷ join s parts
+join-empty s [] some = let no : ⊥ = omega arith in absurd no
+join-empty s (part ∷ parts) some = refl
+
+join-onto : (s c : ℕ) (parts : List (List ℕ)) → join s (onto-first c parts) ≡ c ∷ join s parts
+join-onto s c [] = refl
+join-onto s c (part ∷ []) = refl
+join-onto s c (part ∷ next ∷ parts) = refl
+
+length-onto : (c : ℕ) (parts : List (List ℕ)) → 0 < length (onto-first c parts)
+length-onto c [] = omega arith
+length-onto c (part ∷ parts) = omega arith
+
+split-some : (s : ℕ) (xs : List ℕ) → 0 < length (split s xs)
+split-some s [] = omega arith
+split-some s (c ∷ cs) =
+    cond-both (eqb c s) ([] ∷ split s cs) (onto-first c (split s cs)) (λ parts. 0 < length parts) (λ e. omega arith) (λ e. length-onto c (split s cs))
+
+join-split : (s : ℕ) (xs : List ℕ) → join s (split s xs) ≡ xs
+join-split s [] = refl
+join-split s (c ∷ cs) =
+    cond-both (eqb c s) ([] ∷ split s cs) (onto-first c (split s cs)) (λ parts. join s parts ≡ c ∷ cs)
+    (λ e. join-empty s (split s cs) (split-some s cs) ∙ (λ i. sym (eqb-true c s e) i ∷ join-split s cs i))
+    (λ e. join-onto s c (split s cs) ∙ ap (λ r. c ∷ r) (join-split s cs))
+
+apart-onto : (s c : ℕ) (parts : List (List ℕ)) → (c ≡ s → ⊥) → All (Lacks s) parts → All (Lacks s) (onto-first c parts)
+apart-onto s c [] ne all = ((ne, tt), tt)
+apart-onto s c (part ∷ parts) ne all = ((ne, all .0), all .1)
+
+split-apart : (s : ℕ) (xs : List ℕ) → All (Lacks s) (split s xs)
+split-apart s [] = (tt, tt)
+split-apart s (c ∷ cs) =
+    cond-both (eqb c s) ([] ∷ split s cs) (onto-first c (split s cs)) (All (Lacks s))
+    (λ e. (tt, split-apart s cs))
+    (λ e. apart-onto s c (split s cs) (eqb-false c s e) (split-apart s cs))
+
+pub parts-are-between-separators : (s : ℕ) → Parts-are-between-separators s
+parts-are-between-separators s = record { joined = join-split s; apart = split-apart s }
+
+-- parts that lack the separator are the parts of their join
+split-front : (s : ℕ) (part rest : List ℕ) → Lacks s part → split s (part ++ (s ∷ rest)) ≡ part ∷ split s rest
+split-front s [] rest lacks = ap (λ b. cond b ([] ∷ split s rest) (onto-first s (split s rest))) (eq-eqb s s refl)
+split-front s (c ∷ cs) rest lacks =
+    ap (λ b. cond b ([] ∷ split s (cs ++ (s ∷ rest))) (onto-first c (split s (cs ++ (s ∷ rest))))) (ne-eqb c s (lacks .0))
+    ∙ ap (onto-first c) (split-front s cs rest (lacks .1))
+
+split-whole : (s : ℕ) (part : List ℕ) → Lacks s part → split s part ≡ part ∷ []
+split-whole s [] lacks = refl
+split-whole s (c ∷ cs) lacks =
+    ap (λ b. cond b ([] ∷ split s cs) (onto-first c (split s cs))) (ne-eqb c s (lacks .0)) ∙ ap (onto-first c) (split-whole s cs (lacks .1))
+
+pub split-join : (s : ℕ) (parts : List (List ℕ)) → 0 < length parts → All (Lacks s) parts → split s (join s parts) ≡ parts
+split-join s [] some lacks = let no : ⊥ = omega arith in absurd no
+split-join s (part ∷ []) some lacks = split-whole s part (lacks .0)
+split-join s (part ∷ next ∷ parts) some lacks =
+    split-front s part (join s (next ∷ parts)) (lacks .0) ∙ ap (λ ps. part ∷ ps) (split-join s (next ∷ parts) (omega arith) (lacks .1))

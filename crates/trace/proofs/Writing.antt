@@ -9,7 +9,7 @@ use borrow.Rule.Slice.PartMut.{putMid, postOf}
 use Rattle.std.proofs.shelf.Lists.{append-assoc, append-nil, length-append, length-take-le, length-drop, take-at, take-set-le, take-append-drop, drop-at, drop-drop, drop-set, length-push}
 use Rattle.std.proofs.shelf.Decimals.{decimal-digit, decimal-step, length-decimal-le}
 use Rattle.std.specs.Written.{decimal}
-use Rattle.trace.specs.Texts.{put-at}
+use Rattle.trace.specs.Texts.{put-at, Wrote}
 
 module _ (out : List ℕ) (at : ℕ) (within : at ≤ length out) where
   head-length : length (take at out) ≡ at
@@ -79,6 +79,9 @@ decimal-one n h = ap length (decimal-digit n h)
 pub decimal-at-most : (n : ℕ) → n < 2 ^ 64 → length (decimal n) ≤ 20
 decimal-at-most n fits = length-decimal-le 20 n (omega arith) (omega arith) fits
 
+pub decimal-short : (n : ℕ) → n < 2 ^ 32 → length (decimal n) ≤ 10
+decimal-short n fits = length-decimal-le 10 n (omega arith) (omega arith) (omega arith)
+
 -- the last digit of what is left, and then the digits before it
 pub put-digit : (out : List ℕ) (at place n : ℕ) → 10 ≤ n → n < 2 ^ 64 → place + 1 ≡ at + length (decimal n) → place < length out →
     put-at (set out place (48 + n % 10)) at (decimal (n / 10)) ≡ put-at out at (decimal n)
@@ -101,8 +104,14 @@ put-first out at place n one here within =
     ∙ put-last out at (omega arith) [] (48 + n) (omega arith)
     ∙ ap (put-at out at) (sym (decimal-digit n one))
 
--- one call behind another
-pub put-both : (x y z : List ℕ) (at middle : ℕ) (a b : List ℕ) → at ≤ length x → y ≡ put-at x at a → middle ≡ at + length a →
-    z ≡ put-at y middle b → z ≡ put-at x at (a ++ b)
-put-both x y z at middle a b within first place second =
-    second ∙ (λ i. put-at (first i) (place i) b) ∙ put-put x at within a b
+-- one piece behind another
+pub wrote-both : {x y z a b : List ℕ} {at middle end : ℕ} → at ≤ length x → Wrote x at a y middle → Wrote y middle b z end → Wrote x at (a ++ b) z end
+wrote-both {x} {y} {z} {a} {b} {at} {middle} {end} within first second =
+    record {
+      octets = second .octets ∙ (λ i. put-at (first .octets i) (first .place i) b) ∙ put-put x at within a b;
+      place = omega (arith, length-append a b, first .place, second .place);
+    }
+
+-- the same text in other words
+pub wrote-as : {x y : List ℕ} {at end : ℕ} (a b : List ℕ) → a ≡ b → Wrote x at a y end → Wrote x at b y end
+wrote-as {x} {y} {at} {end} a b e w = record { octets = w .octets ∙ ap (put-at x at) e; place = w .place ∙ ap (λ t. at + length t) e }

@@ -1,6 +1,7 @@
 pub mod Cuts
 pub mod Faults
 pub mod Fields
+pub mod Laws
 pub mod Lines
 pub mod Numbers
 pub mod Texts

@@ -2,6 +2,8 @@
 pub mod cut;
 pub mod fault;
 pub mod field;
+pub mod laws;
 pub mod line;
 pub mod number;
+pub mod reading;
 mod text;

@@ -4,13 +4,12 @@ ghost use mathlib.Core.List.{_++_};
 ghost use Prim.Native.Nat.{_+_, _%_, _≤_};
 ghost use lib.ListN.{length};
 ghost use Rattle.std.specs.Written.{decimal};
-ghost use Rattle.trace.specs.Texts.{put-at};
+ghost use Rattle.trace.specs.Texts.{Wrote};
 
 // Writes the piece, and answers the place behind it.
 pub(crate) fn put(out: &mut [u8], at: usize, piece: &[u8]) -> usize
     requires { ⌜ at + length (now piece) ≤ length (now out) ⌝ }
-    ensures text { λ _. ⌜ now (out .exit) ≡ put-at (now (out .entry)) at (now (piece .entry)) ⌝ }
-    ensures end { λ r. ⌜ r ≡ at + length (now (piece .entry)) ⌝ }
+    ensures wrote { λ r. ⌜ Wrote (now (out .entry)) at (now (piece .entry)) (now (out .exit)) r ⌝ }
 {
     let end = at + piece.len();
     out[at..end].copy_from_slice(piece);
@@ -39,8 +38,7 @@ fn digit(number: u64) -> u8
 // Writes the number in decimal, and answers the place behind it.
 pub(crate) fn put_decimal(out: &mut [u8], at: usize, number: u64) -> usize
     requires { ⌜ at + length (decimal number) ≤ length (now out) ⌝ }
-    ensures text { λ _. ⌜ now (out .exit) ≡ put-at (now (out .entry)) at (decimal number) ⌝ }
-    ensures end { λ r. ⌜ r ≡ at + length (decimal number) ⌝ }
+    ensures wrote { λ r. ⌜ Wrote (now (out .entry)) at (decimal number) (now (out .exit)) r ⌝ }
 {
     let end = at + decimal_len(number);
     let mut place = end - 1;
@@ -54,12 +52,12 @@ pub(crate) fn put_decimal(out: &mut [u8], at: usize, number: u64) -> usize
     end
 }
 
-// Writes a name, which ends in `=`, and behind it the number.
-pub(crate) fn put_field(out: &mut [u8], at: usize, name: &[u8], number: u64) -> usize
-    requires { ⌜ at + length (now name) + length (decimal number) ≤ length (now out) ⌝ }
-    ensures text { λ _. ⌜ now (out .exit) ≡ put-at (now (out .entry)) at (now (name .entry) ++ decimal number) ⌝ }
-    ensures end { λ r. ⌜ r ≡ at + length (now (name .entry) ++ decimal number) ⌝ }
+// Writes a name, which ends in `=`, and behind it the number, which has at most ten digits.
+pub(crate) fn put_field(out: &mut [u8], at: usize, name: &[u8], number: u32) -> usize
+    requires { ⌜ at + length (now name) + 10 ≤ length (now out) ⌝ }
+    ensures wrote { λ r. ⌜ Wrote (now (out .entry)) at (now (name .entry) ++ decimal number) (now (out .exit)) r ⌝ }
+    ensures short { λ r. ⌜ r ≤ at + length (now (name .entry)) + 10 ⌝ }
 {
     let middle = put(out, at, name);
-    put_decimal(out, middle, number)
+    put_decimal(out, middle, number as u64)
 }

@@ -47,9 +47,11 @@ index-out-place-2 c = omega arith
 pub returns : need.returns
 returns c =
     record {
-      text =
-          ap (set (c .loop-rest .out) (c .loop-rest .place)) (c .digit-2 .ensures)
-          ∙ put-first (c .loop-rest .out) (c .args .at) (c .loop-rest .place) (c .loop-rest .rest) (c .loop-rest-test .left) (c .loop-rest .inv .1) (omega arith)
-          ∙ c .loop-rest .inv .0;
-      end = omega arith;
+      wrote = record {
+        octets =
+            ap (set (c .loop-rest .out) (c .loop-rest .place)) (c .digit-2 .ensures)
+            ∙ put-first (c .loop-rest .out) (c .args .at) (c .loop-rest .place) (c .loop-rest .rest) (c .loop-rest-test .left) (c .loop-rest .inv .1) (omega arith)
+            ∙ c .loop-rest .inv .0;
+        place = omega arith;
+      };
     }
