@@ -4,4 +4,6 @@ pub mod Fields
 pub mod Laws
 pub mod Lines
 pub mod Numbers
+pub mod Readers
+pub mod Streams
 pub mod Texts

@@ -1,16 +1,25 @@
 -- Text that is written into octets from a place on.
 use mathlib.Core.Path.{_≡_}
+use mathlib.Core.Bool.{cond}
 use mathlib.Core.List.{List, [], _∷_, _++_}
 use Prim.Native.Nat.{ℕ, _+_}
 use lib.Chars.{codes}
+use lib.Dec.{ltb}
 use lib.ListN.{length, take, drop}
 use Rattle.std.specs.Written.{decimal}
+use Rattle.std.specs.declared.result.Result.{Result}
+use Rattle.std.specs.declared.result.Result.the-variants.{Ok, Err}
 use Rattle.calls.specs.declared.call.Call.{Call}
 use Rattle.calls.specs.declared.call.Call.the-variants.{Open, Enter, Start, Finish}
+use Rattle.calls.specs.declared.refusal.Refusal.{Refusal}
+use Rattle.calls.specs.declared.refusal.Refusal.the-variants.{ShortBuffer}
+use Rattle.trace.specs.declared.fault.LineFault.{LineFault}
 use Rattle.trace.specs.declared.field.Key.{Key}
 use Rattle.trace.specs.declared.field.Key.the-variants.{Session, Weight, Limit, Length, Ticket}
 use Rattle.trace.specs.declared.field.Order.{Order}
 use Rattle.trace.specs.declared.field.Order.the-variants.{Open as OpenOrder, Enter as EnterOrder, Start as StartOrder, Finish as FinishOrder}
+use Rattle.trace.specs.declared.reading.Reading.{Reading}
+use Rattle.trace.specs.Faults.{fault-number, fault-field}
 use Rattle.trace.specs.Fields.{key-name, order-name}
 
 -- what was there, with the piece over it from the place on
@@ -44,3 +53,22 @@ call-fields Finish = order-text FinishOrder ∷ []
 -- the line that writes the call
 abbrev pub call-text : Call → List ℕ
 call-text call = join 32 (call-fields call)
+
+-- a line about a line of the trace: the call that was understood, or the fault by its number and the place of its field
+abbrev pub numbered-line : ℕ → List ℕ
+numbered-line at = codes "at=" ++ decimal at
+
+abbrev pub said-text : ℕ → Result Call LineFault → List ℕ
+said-text at (Ok call) = numbered-line at ++ codes " said=read " ++ call-text call ++ codes "\n"
+said-text at (Err fault) =
+    numbered-line at ++ (codes " said=fault number=" ++ decimal (fault-number fault)) ++ (codes " field=" ++ decimal (fault-field fault)) ++ codes "\n"
+
+abbrev pub reading-text : Reading → List ℕ
+reading-text reading = said-text (reading .at) (reading .line)
+
+-- a line goes to the front of a buffer of at least 96 octets; a shorter one is refused and left alone
+abbrev pub line-answer : List ℕ → List ℕ → Result ℕ Refusal
+line-answer text before = cond (ltb (length before) 96) (Err ShortBuffer) (Ok (length text))
+
+abbrev pub line-after : List ℕ → List ℕ → List ℕ
+line-after text before = cond (ltb (length before) 96) before (text ++ drop (length text) before)

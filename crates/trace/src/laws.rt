@@ -1,6 +1,7 @@
 // What a reader of the format may rely on. Each function's promise is one law; it computes nothing.
 ghost use mathlib.Core.List.{List};
 ghost use Prim.Native.Nat.{ℕ};
+ghost use Rattle.trace.specs.Streams.{Cuts-do-not-matter};
 ghost use Rattle.trace.specs.Laws.{Numbers-have-one-text, Parts-are-between-separators, Faults-are-first, Calls-read-back};
 
 // The decimal text of a number is read as that number, and no other text is.
@@ -21,4 +22,9 @@ pub fn faults_are_first()
 // Every call, written out in the format, is read as that call.
 pub fn calls_read_back()
     ensures { λ _. ⌜ Calls-read-back ⌝ }
+{}
+
+// A trace that comes in chunks, wherever it is cut, is read line by line as the whole is.
+pub fn cuts_do_not_matter()
+    ensures { λ _. ⌜ Cuts-do-not-matter ⌝ }
 {}

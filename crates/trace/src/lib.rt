@@ -6,4 +6,5 @@ pub mod laws;
 pub mod line;
 pub mod number;
 pub mod reading;
+pub mod stream;
 mod text;

@@ -1,0 +1,11 @@
+use native.Mathlib.Omega.{arith}
+use Rattle.trace.proofs.Writing.{wrote-both}
+use Rattle.trace.proofs.reading.put_read.Needs as need
+
+pub returns : need.returns
+returns c =
+    wrote-both (omega arith)
+    (wrote-both (omega arith)
+    (wrote-both (omega arith) (c .put-field-place .ensures .wrote) (c .put-place .ensures .wrote))
+    (c .put-call-place .ensures .wrote))
+    (c .put .ensures .wrote)
