@@ -10,7 +10,7 @@ use native.Mathlib.Numerals.{add-one}
 use lib.Dec.{eqb}
 use lib.ListN.{length, getD, take, drop}
 use borrow.Author.Tests.{ne-eqb, eq-eqb}
-use Rattle.std.proofs.shelf.Lists.{take-rest}
+use Rattle.std.proofs.shelf.Lists.{length-drop, take-rest}
 use Rattle.std.proofs.shelf.Tests.{cond-both, eqb-true, eqb-false}
 use Rattle.std.specs.shelf.Lists.{All}
 use Rattle.std.specs.Options.{mapped}
@@ -42,6 +42,9 @@ pub cut-at : (s : ℕ) (xs : List ℕ) (i : ℕ) → Before s xs i → i < lengt
     Some (take (i - 0) xs, take (length xs - (i + 1)) (drop (i + 1) xs)) ≡ split-once s xs
 cut-at s xs i none within here =
     (λ j. Some (take (sub-zero i j) xs, (take-rest xs (i + 1) ∙ ap (λ n. drop n xs) (add-one i)) j)) ∙ sym (split-once-at s xs i none within here)
+
+pub rest-shorter : (xs : List ℕ) (i : ℕ) → i < length xs → length (take (length xs - (i + 1)) (drop (i + 1) xs)) < length xs
+rest-shorter xs i within = omega (arith, ap length (take-rest xs (i + 1)), length-drop (i + 1) xs)
 
 -- all parts, from the first cut
 abbrev parts-from : ℕ → List ℕ → Option (List ℕ × List ℕ) → List (List ℕ)

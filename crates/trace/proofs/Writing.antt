@@ -1,20 +1,15 @@
 -- Writing text: one piece after another, and a number from its last digit on.
 use mathlib.Core.Path.{_≡_, refl, sym, ap, _∙_}
-use mathlib.Core.Bool.{false, cond}
 use mathlib.Core.List.{List, [], _∷_, _++_}
 use Prim.Native.Nat.{ℕ, zero, suc, _+_, _-_, _/_, _%_, _≤_, _<_, _^_}
 use native.Mathlib.Nat.{mod-eq-of-lt}
 use native.Mathlib.Omega.{arith}
-use lib.Dec.{ltb}
 use lib.ListN.{length, take, drop, set}
 use borrow.Rule.Slice.PartMut.{putMid, postOf}
 use Rattle.std.proofs.shelf.Lists.{append-assoc, append-nil, length-append, length-take-le, length-drop, take-at, take-set-le, take-append-drop, drop-at, drop-drop, drop-set, length-push}
 use Rattle.std.proofs.shelf.Decimals.{decimal-digit, decimal-step, length-decimal-le}
 use Rattle.std.specs.Written.{decimal}
-use Rattle.std.proofs.shelf.Tests.{le-ltb}
-use Rattle.std.specs.declared.result.Result.the-variants.{Ok, Err}
-use Rattle.calls.specs.declared.refusal.Refusal.the-variants.{ShortBuffer}
-use Rattle.trace.specs.Texts.{put-at, Wrote, line-answer, line-after}
+use Rattle.trace.specs.Texts.{put-at, Wrote}
 
 module _ (out : List ℕ) (at : ℕ) (within : at ≤ length out) where
   head-length : length (take at out) ≡ at
@@ -120,13 +115,3 @@ wrote-both {x} {y} {z} {a} {b} {at} {middle} {end} within first second =
 -- the same text in other words
 pub wrote-as : {x y : List ℕ} {at end : ℕ} (a b : List ℕ) → a ≡ b → Wrote x at a y end → Wrote x at b y end
 wrote-as {x} {y} {at} {end} a b e w = record { octets = w .octets ∙ ap (put-at x at) e; place = w .place ∙ ap (λ t. at + length t) e }
-
--- a line at the front of a buffer that has room for it
-pub wrote-line : {x y : List ℕ} {end : ℕ} (text : List ℕ) → 96 ≤ length x → Wrote x 0 text y end → (Ok end ≡ line-answer text x) × (y ≡ line-after text x)
-unfolding put-at
-wrote-line {x} {y} {end} text room w =
-    let long : ltb (length x) 96 ≡ false = le-ltb (length x) 96 room in
-    let zero : 0 + length text ≡ length text = omega arith in (
-      ap Ok (w .place ∙ zero) ∙ sym (ap (λ b. cond b (Err ShortBuffer) (Ok (length text))) long),
-      w .octets ∙ ap (λ k. text ++ drop k x) zero ∙ sym (ap (λ b. cond b x (text ++ drop (length text) x)) long),
-    )

@@ -1,18 +1,14 @@
 -- Text that is written into octets from a place on.
 use mathlib.Core.Path.{_≡_}
-use mathlib.Core.Bool.{cond}
 use mathlib.Core.List.{List, [], _∷_, _++_}
 use Prim.Native.Nat.{ℕ, _+_}
 use lib.Chars.{codes}
-use lib.Dec.{ltb}
 use lib.ListN.{length, take, drop}
 use Rattle.std.specs.Written.{decimal}
 use Rattle.std.specs.declared.result.Result.{Result}
 use Rattle.std.specs.declared.result.Result.the-variants.{Ok, Err}
 use Rattle.calls.specs.declared.call.Call.{Call}
 use Rattle.calls.specs.declared.call.Call.the-variants.{Open, Enter, Start, Finish}
-use Rattle.calls.specs.declared.refusal.Refusal.{Refusal}
-use Rattle.calls.specs.declared.refusal.Refusal.the-variants.{ShortBuffer}
 use Rattle.trace.specs.declared.fault.LineFault.{LineFault}
 use Rattle.trace.specs.declared.field.Key.{Key}
 use Rattle.trace.specs.declared.field.Key.the-variants.{Session, Weight, Limit, Length, Ticket}
@@ -65,10 +61,3 @@ said-text at (Err fault) =
 
 abbrev pub reading-text : Reading → List ℕ
 reading-text reading = said-text (reading .at) (reading .line)
-
--- a line goes to the front of a buffer of at least 96 octets; a shorter one is refused and left alone
-abbrev pub line-answer : List ℕ → List ℕ → Result ℕ Refusal
-line-answer text before = cond (ltb (length before) 96) (Err ShortBuffer) (Ok (length text))
-
-abbrev pub line-after : List ℕ → List ℕ → List ℕ
-line-after text before = cond (ltb (length before) 96) before (text ++ drop (length text) before)

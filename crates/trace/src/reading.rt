@@ -3,7 +3,7 @@ ghost use mathlib.Core.Path.{_≡_};
 ghost use Prim.Native.Nat.{_+_, _≤_};
 ghost use lib.ListN.{length};
 ghost use Rattle.std.specs.declared.result.Result.the-variants.{Ok, Err};
-ghost use Rattle.trace.specs.Texts.{Wrote, call-text, said-text, reading-text, line-answer, line-after};
+ghost use Rattle.trace.specs.Texts.{Wrote, call-text, said-text, reading-text};
 use crate::fault::LineFault;
 use crate::fault::LineFaultDebug;
 use crate::fault::LineFaultPartialEq;
@@ -12,7 +12,6 @@ use crate::text::put_field;
 use calls::call::Call;
 use calls::call::CallDebug;
 use calls::call::CallPartialEq;
-use calls::refusal::Refusal;
 
 // The number of a line, counted from 1, and the call that it writes or its fault.
 #[derive(Clone, Copy, PartialEq, Eq, Debug)]
@@ -54,7 +53,8 @@ fn put_call(out: &mut [u8], at: usize, call: Call) -> usize
 // Writes the fault's line.
 fn put_fault(out: &mut [u8], at: u32, fault: LineFault) -> usize
     requires { ⌜ 96 ≤ length (now out) ⌝ }
-    ensures { λ r. ⌜ Wrote (now (out .entry)) 0 (said-text at (Err fault)) (now (out .exit)) r ⌝ }
+    ensures wrote { λ r. ⌜ Wrote (now (out .entry)) 0 (said-text at (Err fault)) (now (out .exit)) r ⌝ }
+    ensures short { λ r. ⌜ r ≤ 96 ⌝ }
 {
     let place = put_field(out, 0, b"at=", at);
     let place = put_field(out, place, b" said=fault number=", fault.number());
@@ -65,7 +65,8 @@ fn put_fault(out: &mut [u8], at: u32, fault: LineFault) -> usize
 // Writes the line of a call that was understood.
 fn put_read(out: &mut [u8], at: u32, call: Call) -> usize
     requires { ⌜ 96 ≤ length (now out) ⌝ }
-    ensures { λ r. ⌜ Wrote (now (out .entry)) 0 (said-text at (Ok call)) (now (out .exit)) r ⌝ }
+    ensures wrote { λ r. ⌜ Wrote (now (out .entry)) 0 (said-text at (Ok call)) (now (out .exit)) r ⌝ }
+    ensures short { λ r. ⌜ r ≤ 96 ⌝ }
 {
     let place = put_field(out, 0, b"at=", at);
     let place = put(out, place, b" said=read ");
@@ -73,16 +74,13 @@ fn put_read(out: &mut [u8], at: u32, call: Call) -> usize
     put(out, place, b"\n")
 }
 
-// Writes the line of a reading to the front of the buffer and answers its length.
-pub fn write_reading(reading: Reading, out: &mut [u8]) -> Result<usize, Refusal>
-    ensures answer { λ r. ⌜ r ≡ line-answer (reading-text reading) (now (out .entry)) ⌝ }
-    ensures after { λ _. ⌜ now (out .exit) ≡ line-after (reading-text reading) (now (out .entry)) ⌝ }
+// Writes the line of a reading to the front of the buffer, which has room for every such line, and answers its length.
+pub fn write_reading(reading: Reading, out: &mut [u8; 96]) -> usize
+    ensures wrote { λ r. ⌜ Wrote (now (out .entry)) 0 (reading-text reading) (now (out .exit)) r ⌝ }
+    ensures short { λ r. ⌜ r ≤ 96 ⌝ }
 {
-    if out.len() < 96 {
-        return Err(Refusal::ShortBuffer);
-    }
     match reading.line {
-        Ok(call) => Ok(put_read(out, reading.at, call)),
-        Err(fault) => Ok(put_fault(out, reading.at, fault)),
+        Ok(call) => put_read(out, reading.at, call),
+        Err(fault) => put_fault(out, reading.at, fault),
     }
 }

@@ -1,6 +1,8 @@
 // The steps over a trace that comes in chunks: one line at a time.
 ghost use mathlib.Core.Path.{_≡_};
-ghost use Rattle.std.specs.Options.{mapped};
+ghost use Prim.Native.Nat.{_<_};
+ghost use lib.ListN.{length};
+ghost use Rattle.std.specs.Options.{Cases, mapped};
 ghost use Rattle.trace.specs.Cuts.{split-once};
 ghost use Rattle.trace.specs.Readers.{stream-of};
 ghost use Rattle.trace.specs.Streams.{begin, next-at, after-part, line-ended, after-line, next-reading, after-next, last-reading};
@@ -59,6 +61,7 @@ impl LineReader {
     pub fn next<'a>(&mut self, chunk: &'a [u8]) -> Option<(Reading, &'a [u8])>
         ensures reading { λ r. ⌜ mapped (λ p. (p .0, p .1 .now)) r ≡ next-reading (stream-of (now (self .entry))) (split-once 10 (now (chunk .entry))) ⌝ }
         ensures after { λ _. ⌜ stream-of (now (self .exit)) ≡ after-next (stream-of (now (self .entry))) (now (chunk .entry)) (split-once 10 (now (chunk .entry))) ⌝ }
+        ensures shorter { λ r. ⌜ Cases r (Unit {0}) (λ p. length (p .1 .now) < length (now (chunk .entry))) ⌝ }
     {
         match split_once(chunk, 10) {
             Some((part, rest)) => Some((self.end_line(part), rest)),

@@ -9,11 +9,15 @@ use Rattle.trace.proofs.reading.put_fault.Needs as need
 
 pub returns : need.returns
 returns c =
-    wrote-both (omega arith)
-    (wrote-both (omega arith)
-    (wrote-both (omega arith) (c .put-field-place .ensures .wrote)
-    (wrote-as (codes " said=fault number=" ++ decimal (c .number .result)) (codes " said=fault number=" ++ decimal (fault-number (c .args .fault)))
-    (ap (λ n. codes " said=fault number=" ++ decimal n) (c .number .ensures)) (c .put-field-place-2 .ensures .wrote)))
-    (wrote-as (codes " field=" ++ decimal (c .field .result)) (codes " field=" ++ decimal (fault-field (c .args .fault)))
-    (ap (λ n. codes " field=" ++ decimal n) (c .field .ensures)) (c .put-field-place-3 .ensures .wrote)))
-    (c .put .ensures .wrote)
+    record {
+      wrote =
+          wrote-both (omega arith)
+          (wrote-both (omega arith)
+          (wrote-both (omega arith) (c .put-field-place .ensures .wrote)
+          (wrote-as (codes " said=fault number=" ++ decimal (c .number .result)) (codes " said=fault number=" ++ decimal (fault-number (c .args .fault)))
+          (ap (λ n. codes " said=fault number=" ++ decimal n) (c .number .ensures)) (c .put-field-place-2 .ensures .wrote)))
+          (wrote-as (codes " field=" ++ decimal (c .field .result)) (codes " field=" ++ decimal (fault-field (c .args .fault)))
+          (ap (λ n. codes " field=" ++ decimal n) (c .field .ensures)) (c .put-field-place-3 .ensures .wrote)))
+          (c .put .ensures .wrote);
+      short = omega arith;
+    }

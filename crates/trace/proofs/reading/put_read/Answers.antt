@@ -4,8 +4,12 @@ use Rattle.trace.proofs.reading.put_read.Needs as need
 
 pub returns : need.returns
 returns c =
-    wrote-both (omega arith)
-    (wrote-both (omega arith)
-    (wrote-both (omega arith) (c .put-field-place .ensures .wrote) (c .put-place .ensures .wrote))
-    (c .put-call-place .ensures .wrote))
-    (c .put .ensures .wrote)
+    record {
+      wrote =
+          wrote-both (omega arith)
+          (wrote-both (omega arith)
+          (wrote-both (omega arith) (c .put-field-place .ensures .wrote) (c .put-place .ensures .wrote))
+          (c .put-call-place .ensures .wrote))
+          (c .put .ensures .wrote);
+      short = omega arith;
+    }

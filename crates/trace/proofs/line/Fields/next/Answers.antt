@@ -10,7 +10,7 @@ use Rattle.trace.proofs.line.Fields.next.Needs as need
 more : (c : need.After-read-field) → left (c .args .self .now) ≡ c .in-Some .field .now ∷ split 32 (c .in-Some .rest .now)
 more c =
     ap (λ o. left-of (mapped (λ text. text .now) o)) (c .in-Continue-text .was tt)
-    ∙ split-more 32 (c .in-Continue-text .text .now) (c .in-Some .field .now) (c .in-Some .rest .now) (c .in-Some .ensures tt)
+    ∙ split-more 32 (c .in-Continue-text .text .now) (c .in-Some .field .now) (c .in-Some .rest .now) (c .in-Some .ensures tt .parts)
 
 pub returns-in-Some : need.returns-in-Some
 returns-in-Some c =
@@ -22,7 +22,7 @@ returns-in-Some c =
 last : (c : need.After-read-field-in-None) → left (c .args .self .now) ≡ c .in-Continue-text .text .now ∷ []
 last c =
     ap (λ o. left-of (mapped (λ text. text .now) o)) (c .in-Continue-text .was tt)
-    ∙ split-last 32 (c .in-Continue-text .text .now) (c .in-None .ensures tt)
+    ∙ split-last 32 (c .in-Continue-text .text .now) (c .in-None .ensures tt .parts)
 
 pub returns-in-None : need.returns-in-None
 returns-in-None c =
