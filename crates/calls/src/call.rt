@@ -11,6 +11,20 @@ pub struct Packet {
     pub mark: u64,
 }
 
+// What a session is opened with.
+#[derive(Clone, Copy, PartialEq, Eq, Debug)]
+pub struct Terms {
+    pub weight: u32,
+    pub limit: u32,
+}
+
+// A packet in service, with its session.
+#[derive(Clone, Copy, PartialEq, Eq, Debug)]
+pub struct Service {
+    pub session: u32,
+    pub packet: Packet,
+}
+
 // One call, with the numbers as they were given: any of 32 bits.
 #[derive(Clone, Copy, PartialEq, Eq, Debug)]
 pub enum Call {
