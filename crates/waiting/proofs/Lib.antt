@@ -1,0 +1,11 @@
+pub mod Updates
+pub mod Linking
+pub mod Apart
+pub mod Keeping
+pub mod Reading
+pub mod Removing
+pub mod Appending
+pub mod Making
+pub mod Sums
+pub mod Using
+pub mod Stepping
