@@ -5,7 +5,7 @@ use mathlib.Core.List.{List, [], _∷_, _++_}
 use Prim.Native.Nat.{ℕ, suc, _+_, _-_, _^_, _<_, _≤_}
 use native.Mathlib.Omega.{arith}
 use lib.Dec.{eqb}
-use lib.ListN.{length, set, length-set}
+use lib.ListN.{length, length-set}
 use Rattle.std.proofs.shelf.Tests.{eqb-true, eqb-false}
 use Rattle.calls.specs.declared.call.Packet.{Packet}
 use Rattle.waiting.specs.declared.place.Place.{Place}

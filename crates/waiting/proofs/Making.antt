@@ -3,7 +3,7 @@ use mathlib.Core.Path.{_≡_, refl, sym, ap, subst, _∙_}
 use mathlib.Core.List.{List, []}
 use mathlib.Core.Logic.{⊎-elim}
 use mathlib.Core.Bool.{cond}
-use Prim.Native.Nat.{ℕ, zero, suc, _+_, _-_, _^_, _<_, _≤_}
+use Prim.Native.Nat.{ℕ, zero, suc, _+_, _^_, _<_, _≤_}
 use native.Mathlib.Omega.{arith}
 use lib.Dec.{eqb, ltb}
 use lib.ListN.{length, getD, replicate}
@@ -65,49 +65,39 @@ rising-once ps (suc (suc n)) a up i =
     (omega (arith, rest .0), λ below. omega (arith, rest .1 (omega arith))))
     (cases-eq a i)
 
--- n free places and m queues with no packet
-fresh-once :
+-- n free places, and m queues with no packet
+all-free-once :
     (ps : List Place) (n m : ℕ) → ((k : ℕ) → k + 1 < n → place-of ps k .next ≡ k + 1) → (i : ℕ) →
     occurrences i (chain ps 0 n) + sumBy (λ (q : Queue). occurrences i (queue-chain ps q)) (replicate m empty-queue) ≤ 1
-fresh-once ps n m up i =
+all-free-once ps n m up i =
     omega (
       arith,
       rising-once ps n 0 (λ k lt. up k (omega arith)) i .0,
       sum-repeated (λ (q : Queue). occurrences i (queue-chain ps q)) m empty-queue refl,
     )
 
-module _ (t : Chains) (fresh : Fresh t) where
-  no-queue : (s : ℕ) → header t s ≡ empty-queue
-  no-queue s = ap (λ qs. getD qs s empty-queue) (fresh .queues) ∙ repeated 64 s empty-queue
+-- the chains with these places, all of them free
+abbrev all-free : List Place → Chains
+all-free ps = record { places = ps; queues = replicate 64 empty-queue; free = 0; used = 0 }
 
-  each-queue : (P : Queue → Type 0) → P empty-queue → (s : ℕ) → P (header t s)
-  each-queue P here s = subst P (sym (no-queue s)) here
+module _ (ps : List Place) (linked : Linked-below 255 ps) where
+  each-queue : (P : Queue → Type 0) → P empty-queue → (s : ℕ) → P (header (all-free ps) s)
+  each-queue P here s = subst P (sym (repeated 64 s empty-queue)) here
 
-  next-within : (k : ℕ) → place-of (t .places) k .next < 256
+  next-within : (k : ℕ) → place-of ps k .next < 256
   next-within k =
-      subst (λ (x : Place). x .next < 256) (sym (fresh .places k))
+      subst (λ (x : Place). x .next < 256) (sym (linked k))
       (cond-both (ltb k 255) (k + 1) 0 (λ n. n < 256) (λ low. omega (arith, ltb-true k 255 low)) (λ past. omega arith))
 
-  next-up : (k : ℕ) → k < 255 → place-of (t .places) k .next ≡ k + 1
-  next-up k low = ap (λ (x : Place). x .next) (fresh .places k) ∙ cond-true {A = ℕ} (ltb k 255) (k + 1) 0 (lt-ltb k 255 low)
+  next-up : (k : ℕ) → k + 1 < 256 → place-of ps k .next ≡ k + 1
+  next-up k low =
+      ap (λ (x : Place). x .next) (linked k) ∙ cond-true {A = ℕ} (ltb k 255) (k + 1) 0 (lt-ltb k 255 (omega arith))
 
-  once :
-      (free used : ℕ) (qs : List Queue) → free ≡ 0 → used ≡ 0 → qs ≡ replicate 64 empty-queue → (i : ℕ) →
-      occurrences i (chain (t .places) free (256 - used)) + sumBy (λ q. occurrences i (queue-chain (t .places) q)) qs ≤ 1
-  once free used qs first none queues i =
-      subst
-      (λ x. occurrences i (chain (t .places) free (256 - used)) + sumBy (λ q. occurrences i (queue-chain (t .places) q)) x ≤ 1)
-      (sym queues)
-      (subst (λ x. occurrences i (chain (t .places) free (256 - x)) + sumBy (λ q. occurrences i (queue-chain (t .places) q)) (replicate 64 empty-queue) ≤ 1)
-      (sym none)
-      (subst (λ x. occurrences i (chain (t .places) x 256) + sumBy (λ q. occurrences i (queue-chain (t .places) q)) (replicate 64 empty-queue) ≤ 1)
-      (sym first) (fresh-once (t .places) 256 64 (λ k lt. next-up k (omega arith)) i)))
-
-  pub fresh-keeps : Ghosts t
-  fresh-keeps = (
-    fresh .all-places,
+  all-free-keeps : length ps ≡ 256 → Ghosts (all-free ps)
+  all-free-keeps all-places = (
+    all-places,
     (
-      ap length (fresh .queues) ∙ length-replicate 64 empty-queue,
+      length-replicate 64 empty-queue,
       (
         next-within,
         (
@@ -115,18 +105,18 @@ module _ (t : Chains) (fresh : Fresh t) where
           (
             each-queue (λ q. q .tail < 256) (omega arith),
             (
-              omega (arith, fresh .free),
+              omega arith,
               (
-                omega (arith, fresh .used),
+                omega arith,
                 (
-                  (λ i. subst (λ (x : Place). x .packet .length < 2 ^ 32) (sym (fresh .places i)) (omega arith)),
+                  (λ i. subst (λ (x : Place). x .packet .length < 2 ^ 32) (sym (linked i)) (omega arith)),
                   (
-                    each-queue (λ q. q .tail ≡ last-or (q .tail) (queue-chain (t .places) q)) refl,
+                    each-queue (λ q. q .tail ≡ last-or (q .tail) (queue-chain ps q)) refl,
                     (
-                      each-queue (λ q. q .lengths ≡ total-length (packets (t .places) (queue-chain (t .places) q))) refl,
+                      each-queue (λ q. q .lengths ≡ total-length (packets ps (queue-chain ps q))) refl,
                       (
-                        fresh .used ∙ sym (ap (sumBy (λ q. q .count)) (fresh .queues) ∙ sum-repeated (λ (q : Queue). q .count) 64 empty-queue refl),
-                        (once (t .free) (t .used) (t .queues) (fresh .free) (fresh .used) (fresh .queues), tt),
+                        sym (sum-repeated (λ (q : Queue). q .count) 64 empty-queue refl),
+                        (all-free-once ps 256 64 next-up, tt),
                       ),
                     ),
                   ),
@@ -139,5 +129,11 @@ module _ (t : Chains) (fresh : Fresh t) where
     ),
   )
 
+module _ (t : Chains) (fresh : Fresh t) where
+  pub fresh-keeps : Ghosts t
+  fresh-keeps = subst Ghosts (sym (fresh .others)) (all-free-keeps (t .places) (fresh .places) (fresh .all-places))
+
   pub fresh-queue : (s : ℕ) → queue-in t s ≡ []
-  fresh-queue s = ap (λ q. packets (t .places) (queue-chain (t .places) q)) (no-queue s)
+  fresh-queue s =
+      ap (λ x. queue-in x s) (fresh .others)
+      ∙ ap (λ q. packets (t .places) (queue-chain (t .places) q)) (repeated 64 s empty-queue)

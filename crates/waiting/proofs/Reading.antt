@@ -1,30 +1,25 @@
 -- What the headers and the numbers of a table say of its queues.
 use mathlib.Core.Path.{_≡_, refl, sym, ap, subst, _∙_}
-use mathlib.Core.Bool.{cond}
-use mathlib.Core.List.{List, [], _∷_}
-use mathlib.Core.Logic.{⊎-elim}
-use Prim.Native.Nat.{ℕ, zero, suc, _+_, _-_, _<_, _≤_}
+use mathlib.Core.List.{List, []}
+use Prim.Native.Nat.{ℕ, zero, suc, _+_, _<_, _≤_}
 use native.Mathlib.Omega.{arith}
 use native.Mathlib.Numerals.{add-one}
 use lib.Dec.{eqb}
 use lib.ListN.{length, take}
-use Rattle.std.specs.declared.option.Option.{Option}
 use Rattle.std.specs.declared.option.Option.the-variants.{Some, None}
 use Rattle.std.specs.shelf.Lists.{sumBy}
 use Rattle.std.proofs.shelf.Lists.{take-all}
 use Rattle.std.proofs.shelf.Sums.{sumBy-more}
 use Rattle.std.proofs.shelf.Tests.{cond-both, eqb-true, eqb-false}
 use Rattle.calls.specs.Sums.{sum-below}
-use Rattle.calls.specs.declared.call.Packet.{Packet}
 use Rattle.waiting.specs.declared.place.Place.{Place}
 use Rattle.waiting.specs.declared.place.Queue.{Queue}
 use Rattle.waiting.specs.declared.table.Waiting.{Waiting}
-use Rattle.waiting.specs.Chains.{place-of, header, chain, queue-chain, packets}
+use Rattle.waiting.specs.Chains.{empty-queue, place-of, header, chain, queue-chain, packets}
 use Rattle.waiting.specs.Headers.{Describes}
-use Rattle.waiting.specs.Queues.{queue, queue-in, total-length, all-waiting, first-of}
+use Rattle.waiting.specs.Queues.{queue, total-length, all-waiting, first-of}
 use Rattle.waiting.proofs.Linking.{length-packets, length-chain, chain-cons}
 use Rattle.waiting.proofs.Apart.{header-past}
-use Rattle.waiting.specs.Chains.{empty-queue}
 
 module _ (w : Waiting) where
   abbrev ps : List Place

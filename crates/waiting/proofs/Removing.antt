@@ -3,7 +3,7 @@ use mathlib.Core.Path.{_≡_, refl, sym, ap, subst, _∙_}
 use mathlib.Core.List.{List, _∷_}
 use Prim.Native.Nat.{ℕ, _+_, _-_, _^_, _<_, _≤_}
 use native.Mathlib.Omega.{arith}
-use lib.ListN.{length, set, length-set}
+use lib.ListN.{length, length-set}
 use Rattle.calls.specs.declared.call.Packet.{Packet}
 use Rattle.waiting.specs.declared.place.Place.{Place}
 use Rattle.waiting.specs.declared.place.Queue.{Queue}

@@ -1,11 +1,12 @@
 -- What the changes of the chains are to the table: that it keeps its ghost fields, and what its queues are then.
 use mathlib.Core.Path.{_≡_, sym, ap, subst, _∙_}
-use mathlib.Core.List.{List, [], _∷_, _++_}
+use mathlib.Core.List.{[], _∷_, _++_}
 use Prim.Native.Nat.{ℕ, _^_, _<_}
 use native.Mathlib.Omega.{arith}
 use lib.ListN.{length}
-use Rattle.std.specs.declared.option.Option.the-variants.{Some, None}
-use Rattle.std.specs.declared.result.Result.the-variants.{Ok, Err}
+use Rattle.std.specs.declared.option.Option.{Option}
+use Rattle.std.specs.declared.option.Option.the-variants.{Some}
+use Rattle.std.specs.declared.result.Result.the-variants.{Ok}
 use Rattle.calls.specs.declared.call.Packet.{Packet}
 use Rattle.waiting.specs.declared.chains.Chains.{Chains}
 use Rattle.waiting.specs.declared.table.Waiting.{Waiting}
@@ -23,12 +24,12 @@ unfolding queue
 queue-from v t is = ap queue-in is
 
 module _ (w : Waiting) (s : ℕ) where
-  module _ (p : Packet) (ok : put-answer (queue w) s ≡ Ok tt) (fits : p .length < 2 ^ 32) where
+  module _ (p : Packet) (ok : Ok tt ≡ put-answer (queue w) s) (fits : p .length < 2 ^ 32) where
     low : s < 64
-    low = put-room (queue w) s ok .0
+    low = put-room (queue w) s (sym ok) .0
 
     room : w .chains .used < 256
-    room = omega (arith, used-is-all-waiting w, put-room (queue w) s ok .1)
+    room = omega (arith, used-is-all-waiting w, put-room (queue w) s (sym ok) .1)
 
     pub can-append : Appendable (w .chains) s p
     can-append = appendable w s p low room fits
@@ -44,12 +45,15 @@ module _ (w : Waiting) (s : ℕ) where
         (appended-queue w s p low room fits)
         (appended-others w s p low room fits)
 
-  module _ (p : Packet) (ok : first-answer (queue w) s ≡ Ok (Some p)) where
+  module _ (o : Option Packet) (p : Packet) (ok : Ok o ≡ first-answer (queue w) s) (is-some : o ≡ Some p) where
+    found : (s < 64) × (queue w s ≡ p ∷ rest-of (queue w s))
+    found = first-some (queue w) s p (sym ok ∙ ap Ok is-some)
+
     in-range : s < 64
-    in-range = first-some (queue w) s p ok .0
+    in-range = found .0
 
     some : 0 < header (w .chains) s .count
-    some = omega (arith, queue-count w s, ap length (first-some (queue w) s p ok .1))
+    some = omega (arith, queue-count w s, ap length (found .1))
 
     pub can-remove : Removable (w .chains) s
     can-remove = removable w s in-range some

@@ -7,7 +7,6 @@ use Prim.Native.Nat.{ℕ, _+_, _<_, _≤_}
 use native.Mathlib.Omega.{arith}
 use lib.Dec.{eqb, ltb}
 use lib.ListN.{length}
-use Rattle.std.specs.declared.option.Option.{Option}
 use Rattle.std.specs.declared.option.Option.the-variants.{Some, None}
 use Rattle.std.specs.declared.result.Result.{Result}
 use Rattle.std.specs.declared.result.Result.the-variants.{Ok, Err}
@@ -17,7 +16,7 @@ use Rattle.calls.specs.declared.call.Packet.{Packet}
 use Rattle.calls.specs.declared.refusal.Refusal.{Refusal}
 use Rattle.calls.specs.declared.refusal.Refusal.the-variants.{NoSuchSession, Full}
 use Rattle.waiting.specs.declared.table.Waiting.{Waiting}
-use Rattle.waiting.specs.Queues.{queue, first-of, rest-of, total, all-waiting, no-packets, put, of-session, first-answer, put-answer, after-take}
+use Rattle.waiting.specs.Queues.{queue, first-of, rest-of, total, all-waiting, no-packets, put, of-session, first-answer, put-answer, after-put, after-take}
 use Rattle.waiting.proofs.Sums.{sum-below-none, sum-below-changed, term-within-sum}
 use Rattle.waiting.proofs.Reading.{queue-past, used-is-all-waiting}
 
@@ -87,6 +86,14 @@ module _ (w : Waiting) where
       in
       λ i s. at s i
 
+-- what a call makes of the count of all, from w to v
+module _ (w v : Waiting) (s : ℕ) (p : Packet) (low : s < 64) where
+  pub one-more-waits : queue v ≡ put (queue w) s (queue w s ++ p ∷ []) → all-waiting v ≡ all-waiting w + 1
+  one-more-waits after = ap total after ∙ total-push (queue w) s p low
+
+  pub one-less-waits : (ps : List Packet) → queue w s ≡ p ∷ ps → queue v ≡ after-take (queue w) s → all-waiting v + 1 ≡ all-waiting w
+  one-less-waits ps is after = omega (arith, ap total after, total-take (queue w) s p ps low is)
+
 -- ---- answers
 -- what passes a test that refuses
 passed : {X E : Type 0} (b : Bool) (r : Result X E) (e : E) (x : X) → cond b r (Err e) ≡ Ok x → (b ≡ true) × (r ≡ Ok x)
@@ -95,6 +102,9 @@ passed false r e x is = let never : _≡_ {A = ℕ} 0 1 = cc in let no : ⊥ = o
 
 pub of-session-low : {X : Type 0} (s : ℕ) (x : X) → s < 64 → of-session s x ≡ Ok x
 of-session-low s x low = cond-true (ltb s 64) (Ok x) (Err NoSuchSession) (lt-ltb s 64 low)
+
+pub of-session-past : {X : Type 0} (s : ℕ) (x : X) → 64 ≤ s → of-session s x ≡ Err NoSuchSession
+of-session-past s x past = cond-false (ltb s 64) (Ok x) (Err NoSuchSession) (le-ltb s 64 past)
 
 pub of-session-ok : {X : Type 0} (s : ℕ) (x y : X) → of-session s x ≡ Ok y → (s < 64) × (x ≡ y)
 of-session-ok s x y is =
@@ -110,7 +120,7 @@ of-session-err s x e is =
     let never : _≡_ {A = ℕ} 0 1 = cc in
     let no : ⊥ = omega arith in absurd no)
     (λ (past : 64 ≤ s).
-    let err : of-session s x ≡ Err NoSuchSession = cond-false (ltb s 64) (Ok x) (Err NoSuchSession) (le-ltb s 64 past) in
+    let err : of-session s x ≡ Err NoSuchSession = of-session-past s x past in
     (past, (cc)))
     (cases-lt s 64)
 
@@ -140,10 +150,20 @@ first-some q s p is = let ok = of-session-ok s (first-of (q s)) (Some p) is in (
 pub first-none : (q : ℕ → List Packet) (s : ℕ) → first-answer q s ≡ Ok None → (s < 64) × (q s ≡ [])
 first-none q s is = let ok = of-session-ok s (first-of (q s)) None is in (ok .0, first-nil (q s) (ok .1))
 
+pub first-found :
+    (q : ℕ → List Packet) (s : ℕ) (p : Packet) (ps : List Packet) → s < 64 → q s ≡ p ∷ ps → first-answer q s ≡ Ok (Some p)
+first-found q s p ps low is = of-session-low s (first-of (q s)) low ∙ ap (λ xs. Ok (first-of xs)) is
+
+-- put_last where it is known that there is room
+pub put-last-accepted :
+    (q after : ℕ → List Packet) (s : ℕ) (p : Packet) (r : Result (Unit {0}) Refusal) → r ≡ put-answer q s → after ≡ after-put q s p r →
+    s < 64 → total q < 256 → (r ≡ Ok tt) × (after ≡ put q s (q s ++ p ∷ []))
+put-last-accepted q after s p r answer queues low room =
+    let ok : r ≡ Ok tt = answer ∙ put-accepted q s low room in (ok, queues ∙ ap (after-put q s p) ok)
+
 -- where there is no packet, taking one leaves the queues
 pub take-none : (q : ℕ → List Packet) (s : ℕ) → q s ≡ [] → q ≡ after-take q s
 take-none q s none = put-same q s (rest-of (q s)) (none ∙ sym (ap rest-of none))
 
--- ---- a session above 63
-pub refused-has-none : (w : Waiting) (s : ℕ) (e : Refusal) → first-answer (queue w) s ≡ Err e → queue w s ≡ []
-refused-has-none w s e is = queue-past w s (of-session-err s (first-of (queue w s)) e is .0)
+pub take-refused : (w : Waiting) (s : ℕ) (e : Refusal) → Err e ≡ first-answer (queue w) s → queue w ≡ after-take (queue w) s
+take-refused w s e is = take-none (queue w) s (queue-past w s (of-session-err s (first-of (queue w s)) e (sym is) .0))

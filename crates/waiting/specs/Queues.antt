@@ -1,8 +1,7 @@
 -- What the table means: a queue for each session; and what each call answers and makes of the queues.
-use mathlib.Core.Path.{_≡_}
 use mathlib.Core.Bool.{cond}
 use mathlib.Core.List.{List, [], _∷_, _++_}
-use Prim.Native.Nat.{ℕ, _<_, _≤_}
+use Prim.Native.Nat.{ℕ}
 use lib.Dec.{eqb, ltb}
 use lib.ListN.{length}
 use Rattle.std.specs.declared.option.Option.{Option}
@@ -15,7 +14,7 @@ use Rattle.calls.specs.declared.refusal.Refusal.{Refusal}
 use Rattle.calls.specs.declared.refusal.Refusal.the-variants.{NoSuchSession, Full}
 use Rattle.waiting.specs.declared.chains.Chains.{Chains}
 use Rattle.waiting.specs.declared.table.Waiting.{Waiting}
-use Rattle.waiting.specs.Chains.{place-of, header, queue-chain, packets}
+use Rattle.waiting.specs.Chains.{header, queue-chain, packets}
 pub use Rattle.waiting.specs.Chains.{total-length}
 
 abbrev pub queue-in : Chains → ℕ → List Packet

@@ -33,9 +33,7 @@ Linked-below n ps = (k : ℕ) → place-of ps k ≡ record { packet = empty-plac
 pub record Fresh (t : Chains) : Type 0 where
   pub all-places : length (t .places) ≡ 256
   pub places : Linked-below 255 (t .places)
-  pub queues : t .queues ≡ replicate 64 empty-queue
-  pub free : t .free ≡ 0
-  pub used : t .used ≡ 0
+  pub others : t ≡ record { places = t .places; queues = replicate 64 empty-queue; free = 0; used = 0 }
 
 -- ---- the chains
 -- the packet goes into the first free place

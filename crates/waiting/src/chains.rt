@@ -8,7 +8,7 @@ use calls::call::Packet;
 
 pub(crate) const PLACES: u32 = 256;
 
-pub(crate) const SESSIONS: u32 = 64;
+const SESSIONS: u32 = 64;
 
 // The free places are a chain of 256 - `used` places, of which `free` is the first.
 #[derive(Drop)]

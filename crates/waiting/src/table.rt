@@ -12,16 +12,20 @@ pub mod questions;
 #[derive(Drop)]
 pub struct Waiting {
     chains: Chains,
+    // The arrays have their lengths, and every number of a place is below 256.
     ghost places: { length (chains .places) ≡ 256 },
     ghost queues: { length (chains .queues) ≡ 64 },
     ghost links: { Links-within chains },
     ghost heads: { Heads-within chains },
     ghost tails: { Tails-within chains },
     ghost free: { chains .free < 256 },
+    // No more places are used than there are, and a length has 32 bits: no count and no sum of lengths wraps.
     ghost used: { chains .used ≤ 256 },
     ghost sizes: { Lengths-within chains },
+    // What a header says of its queue is true, and the used places are those of the queues.
     ghost lasts: { Tails-last chains },
     ghost lengths: { Lengths-summed chains },
     ghost counts: { Counts-summed chains },
+    // A place is free or in one queue, and stands there once.
     ghost once: { No-place-twice chains },
 }

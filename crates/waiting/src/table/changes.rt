@@ -1,7 +1,5 @@
 // The calls that make a table and change it.
 ghost use mathlib.Core.Path.{_≡_};
-ghost use mathlib.Core.List.{[]};
-ghost use Prim.Native.Nat.{ℕ};
 ghost use Rattle.std.specs.declared.option.Option.the-variants.{None};
 ghost use Rattle.std.specs.declared.result.Result.the-variants.{Ok, Err};
 ghost use Rattle.waiting.specs.Queues.{queue, no-packets, put-answer, first-answer, after-put, after-take};

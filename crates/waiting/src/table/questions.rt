@@ -1,22 +1,30 @@
 // What can be asked of the table. Nothing here changes it.
 ghost use mathlib.Core.Path.{_≡_};
-ghost use Rattle.waiting.specs.Queues.{queue, all-waiting, first-answer, count-answer, lengths-answer, put-answer};
+ghost use Prim.Native.Nat.{_≤_};
+ghost use Rattle.waiting.specs.Queues.{queue, all-waiting, of-session, first-answer, count-answer, lengths-answer, put-answer};
 ghost use Rattle.waiting.specs.Headers.{Header-answer};
 use crate::chains::PLACES;
-use crate::chains::SESSIONS;
 use crate::place::Queue;
 use crate::table::Waiting;
 use calls::call::Packet;
 use calls::refusal::Refusal;
+
+// There is no session above 63.
+fn check_session(session: u32) -> Result<(), Refusal>
+    ensures { λ r. ⌜ r ≡ of-session session tt ⌝ }
+{
+    if session > 63 {
+        return Err(Refusal::NoSuchSession);
+    }
+    Ok(())
+}
 
 impl Waiting {
     // The header of the session's queue.
     fn header(&self, session: u32) -> Result<Queue, Refusal>
         ensures { λ r. ⌜ Header-answer (now (self .entry)) session r ⌝ }
     {
-        if session >= SESSIONS {
-            return Err(Refusal::NoSuchSession);
-        }
+        check_session(session)?;
         Ok(self.chains.queues[session as usize])
     }
 
@@ -47,9 +55,10 @@ impl Waiting {
         Ok(queue.lengths)
     }
 
-    // How many packets all sessions have.
+    // How many packets all sessions have together: at most 256.
     pub fn total(&self) -> u32
-        ensures { λ r. ⌜ r ≡ all-waiting (now (self .entry)) ⌝ }
+        ensures all { λ r. ⌜ r ≡ all-waiting (now (self .entry)) ⌝ }
+        ensures most { λ r. ⌜ r ≤ 256 ⌝ }
     {
         self.chains.used
     }
@@ -58,9 +67,7 @@ impl Waiting {
     pub(crate) fn check_room(&self, session: u32) -> Result<(), Refusal>
         ensures { λ r. ⌜ r ≡ put-answer (queue (now (self .entry))) session ⌝ }
     {
-        if session >= SESSIONS {
-            return Err(Refusal::NoSuchSession);
-        }
+        check_session(session)?;
         if self.total() >= PLACES {
             return Err(Refusal::Full);
         }

@@ -1,4 +1,3 @@
-use borrow.Author.Needs.{needs}
 use Rattle.waiting.specs.Queues.{queue}
 use Rattle.waiting.proofs.Making.{fresh-keeps, fresh-queue}
 use Rattle.waiting.proofs.table.Waiting.new.Needs as need
