@@ -54,6 +54,7 @@ module _ (w : Waiting) where
       record {
         session = low;
         head = w .heads s;
+        tail = w .tails s;
         count = queue-count s;
         lengths = queue-lengths s;
         first =

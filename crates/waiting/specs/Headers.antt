@@ -14,9 +14,11 @@ use Rattle.waiting.specs.declared.table.Waiting.{Waiting}
 use Rattle.waiting.specs.Chains.{place-of}
 use Rattle.waiting.specs.Queues.{queue, first-of, total-length}
 
+-- q is the header of the queue of session s
 pub record Describes (w : Waiting) (s : ℕ) (q : Queue) : Type 0 where
   pub session : s < 64
   pub head : q .head < 256
+  pub tail : q .tail < 256
   pub count : q .count ≡ length (queue w s)
   pub lengths : q .lengths ≡ total-length (queue w s)
   pub first : cond (eqb (q .count) 0) None (Some (place-of (w .chains .places) (q .head) .packet)) ≡ first-of (queue w s)
