@@ -1,0 +1,12 @@
+pub mod Sums
+pub mod Tags
+pub mod Pending
+pub mod Views
+pub mod Steps
+pub mod Runs
+pub mod Orders
+pub mod Stretches
+pub mod Comparisons
+pub mod Fairness
+pub mod Reaches
+pub mod Examples
