@@ -1,7 +1,7 @@
 -- Examples: a run that reaches both bounds, and figures worked out from the rules.
 use mathlib.Core.List.{[], _∷_, _++_}
 use mathlib.Core.Path.{_≡_}
-use Prim.Native.Nat.{ℕ, _*_}
+use Prim.Native.Nat.{ℕ, _+_, _*_}
 use Rattle.std.specs.declared.option.Option.the-variants.{Some, None}
 use Rattle.calls.specs.Strides.{charge, stride}
 use Rattle.calls.specs.declared.call.Packet.{Packet}
@@ -15,33 +15,40 @@ use Rattle.sharing.specs.Clocked.{Clocked, New, Clocked-step}
 use Rattle.sharing.specs.Runs.{Led}
 use Rattle.sharing.specs.Statements.{pairwise-bound, share-bound}
 
--- ---- a run that reaches both bounds: two sessions of weight 1 and limit 100, all packets of length 100
+-- ---- a run that reaches both bounds: session 0 has weight 2 and limit 200, session 1 has weight 1 and limit 100
 
--- what such a packet adds to a mark
-abbrev pub unit : ℕ
-unit = charge 100 * stride 1
+abbrev pub packet : ℕ → ℕ → ℕ → Packet
+packet length ticket mark = record { length = length; ticket = ticket; mark = mark }
 
-abbrev pub full-packet : ℕ → ℕ → Packet
-full-packet ticket mark = record { length = 100; ticket = ticket; mark = mark }
+-- the mark of the first packet, and how far apart the marks of the next three are
+abbrev pub first-mark : ℕ
+first-mark = charge 200 * stride 2
 
--- three packets enter in session 0 and the first of them starts; then one enters in session 1, with the same mark as the second one of session 0
+abbrev pub step : ℕ
+step = charge 100 * stride 2
+
+-- four packets enter in session 0, and the first of them, which is as long as it may be, starts; then one enters in session 1, just as long as it
+-- may be, and is marked as the third one of session 0
 abbrev pub example-before : History
 example-before =
-    record { call = Enter 1 100 4; answer = Entered (2 * unit) } ∷
-    record { call = Start; answer = Started 0 (full-packet 1 unit) } ∷
-    record { call = Enter 0 100 3; answer = Entered (3 * unit) } ∷
-    record { call = Enter 0 100 2; answer = Entered (2 * unit) } ∷
-    record { call = Enter 0 100 1; answer = Entered unit } ∷
+    record { call = Enter 1 100 5; answer = Entered (first-mark + 2 * step) } ∷
+    record { call = Start; answer = Started 0 (packet 200 1 first-mark) } ∷
+    record { call = Enter 0 100 4; answer = Entered (first-mark + 3 * step) } ∷
+    record { call = Enter 0 100 3; answer = Entered (first-mark + 2 * step) } ∷
+    record { call = Enter 0 100 2; answer = Entered (first-mark + step) } ∷
+    record { call = Enter 0 200 1; answer = Entered first-mark } ∷
     record { call = Open 1 1 100; answer = Opened } ∷
-    record { call = Open 0 1 100; answer = Opened } ∷
+    record { call = Open 0 2 200; answer = Opened } ∷
     []
 
--- session 0 is served two packets, since of the equal marks its own goes first
+-- session 0 is served three packets and session 1 none: of the two equal marks that of session 0 goes first
 abbrev pub example-later : History
 example-later =
-    record { call = Finish; answer = Finished 0 (full-packet 2 (2 * unit)) } ∷
-    record { call = Start; answer = Started 0 (full-packet 2 (2 * unit)) } ∷
-    record { call = Finish; answer = Finished 0 (full-packet 1 unit) } ∷
+    record { call = Finish; answer = Finished 0 (packet 100 3 (first-mark + 2 * step)) } ∷
+    record { call = Start; answer = Started 0 (packet 100 3 (first-mark + 2 * step)) } ∷
+    record { call = Finish; answer = Finished 0 (packet 100 2 (first-mark + step)) } ∷
+    record { call = Start; answer = Started 0 (packet 100 2 (first-mark + step)) } ∷
+    record { call = Finish; answer = Finished 0 (packet 200 1 first-mark) } ∷
     []
 
 pub record Bounds-attained : Type 0 where
@@ -60,7 +67,7 @@ one-open = after-open nothing-open 5 16 100
 
 -- a packet is in service and none waits
 abbrev pub one-in-service : Meaning
-one-in-service = record { session = one-open .session; in-service = Some (record { session = 5; packet = full-packet 1 unit }) }
+one-in-service = record { session = one-open .session; in-service = Some (record { session = 5; packet = packet 1 0 45045 }) }
 
 abbrev pub ample : ℕ → ℕ
 ample s = 256
