@@ -54,7 +54,7 @@ abbrev pub accepted : ℕ → History → List Packet
 accepted s [] = []
 accepted s (event ∷ h) = accepted s h ++ accepted-by s (event .call) (event .answer)
 
--- the packets of session s that were finished, in that order
+-- the packets of session s that were finished, in the order in which they left
 abbrev pub finished : ℕ → History → List Packet
 finished s [] = []
 finished s (event ∷ h) = finished s h ++ finished-by s (event .answer)
@@ -65,7 +65,7 @@ finished s (event ∷ h) = finished s h ++ finished-by s (event .answer)
 abbrev pub Backlogged : ℕ → History → Type 0
 Backlogged s h = length (finished s h) < length (accepted s h)
 
--- at the moment `before`, at each moment after it, and when all of `later` has come to pass
+-- session s is backlogged at the moment `before`, at the moment `later ++ before`, and at every moment between
 abbrev pub Backlogged-throughout : ℕ → History → History → Type 0
 Backlogged-throughout s [] before = Backlogged s before
 Backlogged-throughout s (event ∷ later) before = Backlogged s (event ∷ (later ++ before)) × Backlogged-throughout s later before
