@@ -9,6 +9,7 @@ use Rattle.std.specs.declared.option.Option.the-variants.{Some, None}
 use Rattle.calls.specs.Strides.{charge}
 use Rattle.calls.specs.Sums.{sum-below}
 use Rattle.calls.specs.declared.call.Packet.{Packet}
+pub use Rattle.calls.specs.declared.call.Terms.{Terms}
 use Rattle.calls.specs.declared.call.Call.{Call}
 use Rattle.calls.specs.declared.call.Call.the-variants.{Open, Enter, Start, Finish}
 use Rattle.calls.specs.declared.call.Answer.{Answer}
@@ -93,10 +94,6 @@ sent [] = 0
 sent (event ∷ later) = sent later + sent-by (event .answer)
 
 -- ---- what a session was opened with
-
-pub record Terms : Type 0 where
-  pub weight : ℕ
-  pub limit : ℕ
 
 abbrev pub opened-call : ℕ → Call → Option Terms
 opened-call s (Open n weight limit) = cond (eqb n s) (Some (record { weight = weight; limit = limit })) None

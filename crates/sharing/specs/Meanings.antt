@@ -14,6 +14,7 @@ use Rattle.std.specs.declared.result.Result.the-variants.{Ok, Err}
 use Rattle.calls.specs.Strides.{charge}
 use Rattle.calls.specs.Sums.{sum-below}
 use Rattle.calls.specs.declared.call.Packet.{Packet}
+pub use Rattle.calls.specs.declared.call.Service.{Service}
 use Rattle.calls.specs.declared.call.Call.{Call}
 use Rattle.calls.specs.declared.call.Call.the-variants.{Open, Enter, Start, Finish}
 use Rattle.calls.specs.declared.call.Answer.{Answer}
@@ -30,10 +31,6 @@ pub record Session : Type 0 where
   pub octets : ℕ
   -- the first to start first
   pub waiting : List Packet
-
-pub record Service : Type 0 where
-  pub session : ℕ
-  pub packet : Packet
 
 pub record Meaning : Type 0 where
   -- None: the session is closed
@@ -140,9 +137,9 @@ if-open (Some t) ask = Ok (ask t)
 abbrev pub asked : {A : Type 0} → Meaning → ℕ → (Session → A) → Result A Refusal
 asked m s ask = cond (ltb s 64) (if-open (m .session s) ask) (Err NoSuchSession)
 
--- weight and limit
-abbrev pub terms-answer : Meaning → ℕ → Result (ℕ × ℕ) Refusal
-terms-answer m s = asked m s (λ t. (t .weight, t .limit))
+-- weight and limit, as one record
+abbrev pub terms-answer : Meaning → ℕ → Result Terms Refusal
+terms-answer m s = asked m s (λ t. record { weight = t .weight; limit = t .limit })
 
 -- how many packets of the session wait
 abbrev pub count-answer : Meaning → ℕ → Result ℕ Refusal

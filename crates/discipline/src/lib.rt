@@ -1,0 +1,2 @@
+// Disciplines: what they show, and what stands over any of them.
+pub mod discipline;
