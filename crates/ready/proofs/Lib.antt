@@ -1,0 +1,4 @@
+pub mod Orders
+pub mod Leasts
+pub mod Gaps
+pub mod Counts

@@ -1,0 +1,5 @@
+// A ready line: the sessions that wait, each with its tag, and which of them comes first.
+pub mod entry;
+pub mod line;
+mod moves;
+pub mod scan;
