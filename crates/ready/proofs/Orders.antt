@@ -1,11 +1,13 @@
--- The order of entries is total: these four laws are all that other proofs use of it.
+-- The order of entries is total. What follows is all that other proofs use of it.
 use mathlib.Core.Path.{_≡_, refl}
+use mathlib.Core.Logic.{⊎-elim}
 use mathlib.Core.Bool.{true, false}
 use Prim.Native.Nat.{ℕ}
 use native.Mathlib.Omega.{arith}
 use lib.Dec.{ltb, leb, eqb}
+use Rattle.std.proofs.shelf.Tests.{cases-bool}
 use Rattle.std.proofs.shelf.Ways.{tells}
-use Rattle.ready.specs.Order.{Entry, at-most, At-most}
+use Rattle.ready.specs.Order.{Entry, at-most, At-most, Before}
 
 pub at-most-same : (a : Entry) → At-most a a
 at-most-same a = grind (arith, tells)
@@ -23,3 +25,6 @@ same-parts a b p q = (grind (arith, tells), grind (arith, tells))
 
 pub at-most-both : (a b : Entry) → At-most a b → At-most b a → a ≡ b
 at-most-both a b p q = let same = same-parts a b p q in λ i. (same .0 i, same .1 i)
+
+pub before-other : (a b : Entry) → At-most a b → (a ≡ b → ⊥) → Before a b
+before-other a b p ne = ⊎-elim (λ q. absurd (ne (at-most-both a b p q))) (λ n. n) (cases-bool (at-most b a))

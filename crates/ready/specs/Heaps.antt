@@ -18,6 +18,11 @@ Child p k = (p * 2 + 1 ≤ k) × (k ≤ p * 2 + 2)
 abbrev pub Heap-ordered : ℕ → ℕ → List Entry → Type 0
 Heap-ordered low high es = (k : ℕ) → low ≤ k → k < high → At-most (entry-at es ((k - 1) / 2)) (entry-at es k)
 
+-- the entry at the top
+abbrev pub first-of : List Entry → Option Entry
+first-of [] = None
+first-of (e ∷ es) = Some e
+
 -- the tag of the first entry of session s
 abbrev pub tag-among : ℕ → List Entry → Option ℕ
 tag-among s [] = None

@@ -1,6 +1,6 @@
 -- What a ready line means, and what each call answers and leaves.
 use mathlib.Core.List.{List, [], _∷_}
-use mathlib.Core.Bool.{cond}
+use mathlib.Core.Bool.{Bool, cond}
 use Prim.Native.Nat.{ℕ, suc}
 use lib.Dec.{ltb}
 use lib.ListN.{getD, set, replicate}
@@ -28,13 +28,17 @@ no-entries = replicate 64 None
 abbrev pub entry-count : Tags → ℕ
 entry-count xs = countBy isSome xs
 
--- the place of a session in a table of 64
+-- the place of a session in a table of 64: a session above 63 has none
 abbrev pub place-answer : ℕ → Result ℕ Refusal
 place-answer s = cond (ltb s 64) (Ok s) (Err NoSuchSession)
 
+-- a session takes no second entry
+abbrev pub free-answer : Bool → Result (Unit {0}) Refusal
+free-answer has-entry = cond has-entry (Err DuplicateEntry) (Ok tt)
+
 -- what `add` answers: a session above 63 is refused, and then one that has an entry
 abbrev pub add-answer : Tags → ℕ → Result (Unit {0}) Refusal
-add-answer xs s = cond (ltb s 64) (cond (isSome (tag-of xs s)) (Err DuplicateEntry) (Ok tt)) (Err NoSuchSession)
+add-answer xs s = cond (ltb s 64) (free-answer (isSome (tag-of xs s))) (Err NoSuchSession)
 
 -- what `add` leaves: where it is not refused the entry is in, and nothing else has changed
 abbrev pub added : Tags → ℕ → ℕ → Tags

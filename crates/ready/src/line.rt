@@ -1,7 +1,7 @@
 // What a ready line is.
 ghost use mathlib.Core.Path.{_≡_};
 ghost use lib.ListN.{length};
-ghost use Rattle.ready.specs.Tags.{Tags, place-answer, add-answer, added, least-of, without, no-entries, entry-count};
+ghost use Rattle.ready.specs.Tags.{Tags, place-answer, free-answer, add-answer, added, least-of, without, no-entries, entry-count};
 use crate::entry::Entry;
 use calls::refusal::Refusal;
 
@@ -43,4 +43,14 @@ pub fn place_of(session: u32) -> Result<usize, Refusal>
         return Err(Refusal::NoSuchSession);
     }
     Ok(session as usize)
+}
+
+// Refuses a second entry of a session.
+pub fn check_free(has_entry: bool) -> Result<(), Refusal>
+    ensures { λ r. ⌜ r ≡ free-answer «has_entry» ⌝ }
+{
+    if has_entry {
+        return Err(Refusal::DuplicateEntry);
+    }
+    Ok(())
 }

@@ -5,6 +5,7 @@ ghost use Rattle.ready.specs.Tags.{earlier, entry-of, no-entries};
 use crate::entry::Entry;
 use crate::entry::at_most;
 use crate::line::ReadyLine;
+use crate::line::check_free;
 use crate::line::place_of;
 use calls::refusal::Refusal;
 
@@ -52,9 +53,8 @@ pub impl ReadyLine for Scan as ScanReadyLine {
 
     fn add(&mut self, tag: u64, session: u32) -> Result<(), Refusal> {
         let place = place_of(session)?;
-        if let Some(_) = self.tags[place] {
-            return Err(Refusal::DuplicateEntry);
-        }
+        let held = self.tags[place];
+        check_free(held.is_some())?;
         self.tags[place] = Some(tag);
         Ok(())
     }
