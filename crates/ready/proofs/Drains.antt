@@ -85,14 +85,15 @@ module _ (xs ys : Tags) (start es : List Entry) (n : ℕ) (e : Entry) (is : Some
         λ t s. omega (arith, sumBy-push (λ x. bit (is-entry t s x)) front e, tag-is-dropped ys (e .0) (e .1) (least .0) t s, was .3 t s),
       )
 
-  pub drains-more : length xs ≡ 64 → (zs : Tags) → zs ≡ set ys (e .1) None → Drains xs zs start (set es n e) (n + 1)
-  drains-more wide zs q =
+  pub drains-more : length xs ≡ 64 → (zs : Tags) (fs : List Entry) (m : ℕ) → zs ≡ set ys (e .1) None → fs ≡ set es n e → m ≡ n + 1 → Drains xs zs start fs m
+  drains-more wide zs fs m rest put more =
       let room = drains-room wide in
-      let within : n < length es = omega (arith, h .0) in (
-        length-set es n e ∙ h .0,
+      let within : n < length es = omega (arith, h .0) in
+      let grown : take m fs ≡ longer = (λ i. take (more i) (put i)) ∙ take-more-set es n e within in (
+        ap length put ∙ length-set es n e ∙ h .0,
         omega arith,
-        drop-set-lt (n + 1) es n e (omega arith) ∙ sym (drop-drop 1 n es) ∙ ap (drop 1) (h .2) ∙ drop-drop 1 n start,
-        subst (λ (ws : Tags). Taken xs ws (take (n + 1) (set es n e))) (sym q) (subst (Taken xs (set ys (e .1) None)) (sym (take-more-set es n e within)) taken-more),
+        (λ i. drop (more i) (put i)) ∙ drop-set-lt (n + 1) es n e (omega arith) ∙ sym (drop-drop 1 n es) ∙ ap (drop 1) (h .2) ∙ drop-drop 1 n start ∙ ap (λ (k : ℕ). drop k start) (sym more),
+        subst (λ (ws : Tags). Taken xs ws (take m fs)) (sym rest) (subst (Taken xs (set ys (e .1) None)) (sym grown) taken-more),
       )
 
 -- where no entry is left, all are taken
@@ -104,11 +105,14 @@ module _ (ys : Tags) (is : None ≡ least-of ys) where
   none-left : (s : ℕ) → tag-of ys s ≡ None
   none-left s = not-some (tag-of ys s) (is-least-from ys None is s)
 
-  pub drained-empty : length ys ≡ 64 → ys ≡ no-entries
-  drained-empty wide = ext-getD None ys no-entries wide (λ s l. none-left s ∙ sym (getD-replicate 64 s None None (omega arith)))
+  empty : length ys ≡ 64 → ys ≡ no-entries
+  empty wide = ext-getD None ys no-entries wide (λ s l. none-left s ∙ sym (getD-replicate 64 s None None (omega arith)))
+
+  pub drained-empty : length ys ≡ 64 → (zs : Tags) → zs ≡ ys → zs ≡ no-entries
+  drained-empty wide zs same = same ∙ empty wide
 
   pub drained-all : (xs : Tags) (es : List Entry) → Taken xs ys es → Each-once es xs
   drained-all xs es h = λ t s. omega (arith, h .3 t s, ap (λ (o : Option ℕ). tag-is o t) (none-left s))
 
   pub drained-count : length ys ≡ 64 → (xs : Tags) (start es : List Entry) (n : ℕ) → Drains xs ys start es n → n ≡ entry-count xs
-  drained-count wide xs start es n h = omega (arith, h .3 .0, length-take-le n es (omega (arith, h .0, h .1)), ap entry-count (drained-empty wide))
+  drained-count wide xs start es n h = omega (arith, h .3 .0, length-take-le n es (omega (arith, h .0, h .1)), ap entry-count (empty wide))

@@ -54,24 +54,22 @@ first-at (d ∷ es) e h = cc
 abbrev pub Kept : List Entry → ℕ → List Bool → Type 0
 Kept es n ps = (n ≤ 64) × (Heap-ordered 1 n es × (Each-once es (tags-of es) × ((n ≡ entry-count (tags-of es)) × ((ps ≡ map isSome (tags-of es)) × Unit {0}))))
 
--- from the tags that the entries are to stand for
-kept-from : (es : List Entry) (n : ℕ) (ps : List Bool) (xs : Tags) → length xs ≡ 64 → Each-once es xs → Heap-ordered 1 n es → n ≡ entry-count xs → ps ≡ map isSome xs → (tags-of es ≡ xs) × Kept es n ps
-kept-from es n ps xs wide once ordered counted marked =
-    let is = tags-from-once es xs wide once in
-    (is, (omega (arith, count-most xs), (ordered, (subst (Each-once es) (sym is) once, (counted ∙ ap entry-count (sym is), (marked ∙ ap (map isSome) (sym is), tt))))))
-
-put-room : (ys es : List Entry) (m : ℕ) → length ys ≡ m → m ≤ length es → length (ys ++ drop m es) ≡ length es
-put-room ys es m e l = omega (arith, length-append ys (drop m es), length-drop m es)
-
--- the table es after a move within its first n entries, which are ys then: the tags that they stand for, and what the ghost
--- fields say. The checker writes `n - 0` for the length of the part from 0 to n
+-- the table es after a move within its first n entries, which were ds and are ys then: the tags that they stand for, and what the
+-- ghost fields say. The checker writes `n - 0` for the length of the part from 0 to n
 abbrev Put : List Entry → List Entry → ℕ → List Bool → Tags → Type 0
 Put ys es n ps xs = (tags-of (take n (ys ++ drop (n - 0) es)) ≡ xs) × ((length (ys ++ drop (n - 0) es) ≡ 64) × Kept (take n (ys ++ drop (n - 0) es)) n ps)
 
-put-kept : (ys es : List Entry) (n : ℕ) (ps : List Bool) (xs : Tags) → length ys ≡ n → n ≤ length es → length es ≡ 64 → (tags-of ys ≡ xs) × Kept ys n ps → Put ys es n ps xs
-put-kept ys es n ps xs e l wide kept =
-    let is = sym (take-at ys (drop (n - 0) es) n e) in
-    (ap tags-of (sym is) ∙ kept .0, (put-room ys es (n - 0) (omega arith) (omega arith) ∙ wide, subst (λ (zs : List Entry). Kept zs n ps) is (kept .1)))
+put-kept : (ys ds es : List Entry) (n : ℕ) (ps : List Bool) (xs : Tags) → length ys ≡ n → length es ≡ 64 → length xs ≡ 64 →
+    Same-entries ds ys → Heap-ordered 1 (length ys) ys → Each-once ds xs → n ≡ entry-count xs → ps ≡ map isSome xs → Put ys es n ps xs
+put-kept ys ds es n ps xs long room wide same ordered once counted marked =
+    let few : n ≤ 64 = omega (arith, count-most xs) in
+    let all : Each-once ys xs = once-same ds ys xs same once in
+    let is = tags-from-once ys xs wide all in
+    let here = sym (take-at ys (drop (n - 0) es) n long) in
+    let kept : Kept ys n ps = (few, (subst (λ (k : ℕ). Heap-ordered 1 k ys) long ordered, (subst (Each-once ys) (sym is) all, (counted ∙ ap entry-count (sym is), (marked ∙ ap (map isSome) (sym is), tt))))) in (
+      ap tags-of (sym here) ∙ is,
+      (omega (arith, length-append ys (drop (n - 0) es), length-drop (n - 0) es), subst (λ (zs : List Entry). Kept zs n ps) here kept),
+    )
 
 -- what is left when the last of n + 1 entries takes the place of the first
 sum-dropped : (f : Entry → ℕ) (es : List Entry) (n : ℕ) → n < length es → sumBy f (take n (set es 0 (entry-at es n))) + f (entry-at es 0) ≡ sumBy f (take (n + 1) es)
@@ -130,41 +128,32 @@ module _ (x : Heap) where
     pub len-free : x .len < 64
     len-free = omega (arith, x .counted, length-tags front, count-free held s below free)
 
-    abbrev grown : List Entry
-    grown = set (x .entries) (x .len) (t, s)
+    module _ (m : ℕ) (grown : List Entry) (more : m ≡ x .len + 1) (put : grown ≡ set (x .entries) (x .len) (t, s)) where
+      abbrev longer : List Entry
+      longer = take (m - 0) grown
 
-    abbrev longer : List Entry
-    longer = take (x .len + 1 - 0) grown
+      longer-is : longer ≡ front ++ (t, s) ∷ []
+      longer-is = (λ i. take ((sub-zero m ∙ more) i) (put i)) ∙ take-more-set (x .entries) (x .len) (t, s) (omega (arith, x .room, len-free))
 
-    longer-is : longer ≡ front ++ (t, s) ∷ []
-    longer-is = ap (λ (n : ℕ). take n grown) (sub-zero (x .len + 1)) ∙ take-more-set (x .entries) (x .len) (t, s) (omega (arith, x .room, len-free))
+      longer-long : length longer ≡ m
+      longer-long = ap length longer-is ∙ length-push front (t, s) ∙ ap (λ (n : ℕ). n + 1) front-long ∙ sym more
 
-    longer-long : length longer ≡ x .len + 1
-    longer-long = ap length longer-is ∙ length-push front (t, s) ∙ ap (λ (n : ℕ). n + 1) front-long
+      longer-at : (k : ℕ) → k < x .len → entry-at longer k ≡ entry-at front k
+      longer-at k l = ap (λ (es : List Entry). entry-at es k) longer-is ∙ getD-append-left front ((t, s) ∷ []) (0, 0) k (omega (arith, front-long))
 
-    longer-at : (m : ℕ) → m < x .len → entry-at longer m ≡ entry-at front m
-    longer-at m b = ap (λ (es : List Entry). entry-at es m) longer-is ∙ getD-append-left front ((t, s) ∷ []) (0, 0) m (omega (arith, front-long))
+      pub add-ordered : Heap-ordered 1 (length longer - 1) longer
+      add-ordered = λ k a b.
+          let small : k < x .len = omega (arith, longer-long) in
+          let was = x .ordered k a small in
+          cc (longer-at k small, longer-at ((k - 1) / 2) (omega arith))
 
-    pub add-ordered : Heap-ordered 1 (length longer - 1) longer
-    add-ordered = λ k a b.
-        let small : k < x .len = omega (arith, longer-long) in
-        let was = x .ordered k a small in
-        cc (longer-at k small, longer-at ((k - 1) / 2) (omega arith))
-
-    add-keeps : (ys : List Entry) → length ys ≡ length longer → Same-entries longer ys → Heap-ordered 1 (length ys) ys → (tags-of ys ≡ set held s (Some t)) × Kept ys (x .len + 1) (set (x .present) p true)
-    add-keeps ys long same ordered =
-        let more : Each-once longer (set held s (Some t)) = subst (λ (es : List Entry). Each-once es (set held s (Some t))) (sym longer-is) (once-added front held t s below free (x .once)) in
-        kept-from ys (x .len + 1) (set (x .present) p true) (set held s (Some t))
-        (length-set held s (Some t) ∙ length-tags front)
-        (once-same longer ys (set held s (Some t)) same more)
-        (subst (λ (n : ℕ). Heap-ordered 1 n ys) (long ∙ longer-long) ordered)
-        (omega (arith, count-added held t s below free, x .counted))
-        ((λ i. set (x .marked i) (place-is s p at .0 i) true) ∙ sym (map-set isSome held s (Some t)))
-
-    pub add-after : (ys : List Entry) → length ys ≡ length longer → Same-entries longer ys → Heap-ordered 1 (length ys) ys → Put ys grown (x .len + 1) (set (x .present) p true) (set held s (Some t))
-    add-after ys long same ordered =
-        let wide : length grown ≡ 64 = length-set (x .entries) (x .len) (t, s) ∙ x .room in
-        put-kept ys grown (x .len + 1) (set (x .present) p true) (set held s (Some t)) (long ∙ longer-long) (omega (arith, len-free)) wide (add-keeps ys long same ordered)
+      pub add-after : (ys : List Entry) → length ys ≡ length longer → Same-entries longer ys → Heap-ordered 1 (length ys) ys → Put ys grown m (set (x .present) p true) (set held s (Some t))
+      add-after ys long same ordered =
+          let room : length grown ≡ 64 = ap length put ∙ length-set (x .entries) (x .len) (t, s) ∙ x .room in
+          let once : Each-once longer (set held s (Some t)) = subst (λ (es : List Entry). Each-once es (set held s (Some t))) (sym longer-is) (once-added front held t s below free (x .once)) in
+          put-kept ys longer grown m (set (x .present) p true) (set held s (Some t)) (long ∙ longer-long) room (length-set held s (Some t) ∙ length-tags front) same ordered once
+          (omega (arith, count-added held t s below free, x .counted))
+          ((λ i. set (x .marked i) (place-is s p at .0 i) true) ∙ sym (map-set isSome held s (Some t)))
 
   -- the entries but for the least, with the last in its place: in order but for that, and then all
   module _ (t s : ℕ) (is : Some (t, s) ≡ least-of held) where
@@ -180,48 +169,43 @@ module _ (x : Heap) where
     pub taken-within : s < 64
     taken-within = omega (arith, length-tags front, tag-within held s t taken)
 
-    abbrev last : Entry
-    last = entry-at (x .entries) (x .len - 1)
+    module _ (m : ℕ) (shrunk : List Entry) (fewer : m ≡ x .len - 1) (put : shrunk ≡ set (x .entries) 0 (entry-at (x .entries) (x .len - 1))) where
+      abbrev shorter : List Entry
+      shorter = take (m - 0) shrunk
 
-    abbrev shrunk : List Entry
-    shrunk = set (x .entries) 0 last
+      shorter-is : shorter ≡ take (x .len - 1) (set (x .entries) 0 (entry-at (x .entries) (x .len - 1)))
+      shorter-is = λ i. take ((sub-zero m ∙ fewer) i) (put i)
 
-    abbrev shorter : List Entry
-    shorter = take (x .len - 1 - 0) shrunk
+      room : length shrunk ≡ 64
+      room = ap length put ∙ length-set (x .entries) 0 (entry-at (x .entries) (x .len - 1)) ∙ x .room
 
-    shorter-long : length shorter ≡ x .len - 1
-    shorter-long = ap (λ (n : ℕ). length (take n shrunk)) (sub-zero (x .len - 1)) ∙ length-take-le (x .len - 1) shrunk (omega (arith, x .room, length-set (x .entries) 0 last))
+      shorter-long : length shorter ≡ m
+      shorter-long = ap (λ (n : ℕ). length (take n shrunk)) (sub-zero m) ∙ length-take-le m shrunk (omega (arith, room))
 
-    shorter-at : (m : ℕ) → 0 < m → m < x .len - 1 → entry-at shorter m ≡ entry-at front m
-    shorter-at m a b =
-        getD-take (x .len - 1 - 0) shrunk m (0, 0) (omega arith)
-        ∙ getD-set-other (x .entries) 0 m last (0, 0) (omega arith)
-        ∙ sym (getD-take (x .len) (x .entries) m (0, 0) (omega arith))
+      shorter-at : (k : ℕ) → 0 < k → k < x .len - 1 → entry-at shorter k ≡ entry-at front k
+      shorter-at k a b =
+          ap (λ (es : List Entry). entry-at es k) shorter-is
+          ∙ getD-take (x .len - 1) (set (x .entries) 0 (entry-at (x .entries) (x .len - 1))) k (0, 0) (omega arith)
+          ∙ getD-set-other (x .entries) 0 k (entry-at (x .entries) (x .len - 1)) (0, 0) (omega arith)
+          ∙ sym (getD-take (x .len) (x .entries) k (0, 0) (omega arith))
 
-    pub drop-ordered : Heap-ordered 3 (length shorter) shorter
-    drop-ordered = λ k a b.
-        let small : k < x .len - 1 = omega (arith, shorter-long) in
-        let was = x .ordered k (omega arith) (omega arith) in
-        cc (shorter-at k (omega arith) small, shorter-at ((k - 1) / 2) (omega arith) (omega arith))
+      pub drop-ordered : Heap-ordered 3 (length shorter) shorter
+      drop-ordered = λ k a b.
+          let small : k < x .len - 1 = omega (arith, shorter-long) in
+          let was = x .ordered k (omega arith) (omega arith) in
+          cc (shorter-at k (omega arith) small, shorter-at ((k - 1) / 2) (omega arith) (omega arith))
 
-    less : (u r : ℕ) → occurrences u r shorter + bit (is-entry u r (t, s)) ≡ occurrences u r front
-    less u r =
-        let f : Entry → ℕ = λ e. bit (is-entry u r e) in
-        ap (λ (e : Entry). sumBy f shorter + f e) (sym (sym (getD-take (x .len) (x .entries) 0 (0, 0) some) ∙ first-at front (t, s) is-first))
-        ∙ ap (λ (n : ℕ). sumBy f (take n shrunk) + f first) (sub-zero (x .len - 1))
-        ∙ sum-dropped f (x .entries) (x .len - 1) (omega (arith, x .room, some))
-        ∙ ap (λ (n : ℕ). sumBy f (take n (x .entries))) (omega (arith, some))
+      less : (u r : ℕ) → occurrences u r shorter + bit (is-entry u r (t, s)) ≡ occurrences u r front
+      less u r =
+          let f : Entry → ℕ = λ e. bit (is-entry u r e) in
+          let top : (t, s) ≡ entry-at (x .entries) 0 = sym (sym (getD-take (x .len) (x .entries) 0 (0, 0) some) ∙ first-at front (t, s) is-first) in
+          (λ i. sumBy f (shorter-is i) + f (top i))
+          ∙ sum-dropped f (x .entries) (x .len - 1) (omega (arith, x .room, some))
+          ∙ ap (λ (n : ℕ). sumBy f (take n (x .entries))) (omega (arith, some))
 
-    drop-keeps : (ys : List Entry) → length ys ≡ length shorter → Same-entries shorter ys → Heap-ordered 1 (length ys) ys → (tags-of ys ≡ set held s None) × Kept ys (x .len - 1) (set (x .present) s false)
-    drop-keeps ys long same ordered =
-        kept-from ys (x .len - 1) (set (x .present) s false) (set held s None)
-        (length-set held s None ∙ length-tags front)
-        (once-same shorter ys (set held s None) same (once-dropped front shorter held (t, s) taken less (x .once)))
-        (subst (λ (n : ℕ). Heap-ordered 1 n ys) (long ∙ shorter-long) ordered)
-        (omega (arith, count-dropped held t s taken, x .counted))
-        (ap (λ (ps : List Bool). set ps s false) (x .marked) ∙ sym (map-set isSome held s None))
-
-    pub drop-after : (ys : List Entry) → length ys ≡ length shorter → Same-entries shorter ys → Heap-ordered 1 (length ys) ys → Put ys shrunk (x .len - 1) (set (x .present) s false) (set held s None)
-    drop-after ys long same ordered =
-        let wide : length shrunk ≡ 64 = length-set (x .entries) 0 last ∙ x .room in
-        put-kept ys shrunk (x .len - 1) (set (x .present) s false) (set held s None) (long ∙ shorter-long) (omega (arith)) wide (drop-keeps ys long same ordered)
+      pub drop-after : (ys : List Entry) → length ys ≡ length shorter → Same-entries shorter ys → Heap-ordered 1 (length ys) ys → Put ys shrunk m (set (x .present) s false) (set held s None)
+      drop-after ys long same ordered =
+          put-kept ys shorter shrunk m (set (x .present) s false) (set held s None) (long ∙ shorter-long) room (length-set held s None ∙ length-tags front) same ordered
+          (once-dropped front shorter held (t, s) taken less (x .once))
+          (omega (arith, count-dropped held t s taken, x .counted))
+          (ap (λ (ps : List Bool). set ps s false) (x .marked) ∙ sym (map-set isSome held s None))

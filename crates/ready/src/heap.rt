@@ -13,6 +13,8 @@ use crate::line::check_free;
 use crate::line::place_of;
 use crate::moves::move_down;
 use crate::moves::move_up;
+use crate::table::drop_first;
+use crate::table::push;
 use calls::refusal::Refusal;
 
 // The heap is the first `len` entries. For each session `present` says whether it has one.
@@ -59,8 +61,7 @@ pub impl ReadyLine for Heap as HeapReadyLine {
         let place = place_of(session)?;
         check_free(self.present[place])?;
         self.present[place] = true;
-        self.entries[self.len] = (tag, session);
-        self.len += 1;
+        self.len = push(&mut self.entries, self.len, (tag, session));
         move_up(&mut self.entries[0..self.len]);
         Ok(())
     }
@@ -72,8 +73,7 @@ pub impl ReadyLine for Heap as HeapReadyLine {
     fn drop_least(&mut self) -> Option<Entry> {
         let (tag, session) = self.least()?;
         self.present[session as usize] = false;
-        self.len -= 1;
-        self.entries[0] = self.entries[self.len];
+        self.len = drop_first(&mut self.entries, self.len);
         move_down(&mut self.entries[0..self.len]);
         Some((tag, session))
     }

@@ -6,6 +6,7 @@ ghost use Rattle.ready.specs.Least.{Is-least};
 ghost use Rattle.ready.specs.Entries.{Each-once, Rising};
 use crate::entry::Entry;
 use crate::line::ReadyLine;
+use crate::table::push;
 
 // The entry that is at most every entry of the line.
 pub fn first_in_order<R: ReadyLine>(line: &R) -> Option<Entry>
@@ -24,8 +25,7 @@ pub fn drop_all<R: ReadyLine>(line: &mut R, buffer: &mut [Entry; 64]) -> usize
 {
     let mut count = 0;
     while let Some(entry) = line.drop_least() {
-        buffer[count] = entry;
-        count += 1;
+        count = push(buffer, count, entry);
     }
     count
 }

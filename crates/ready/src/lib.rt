@@ -5,3 +5,4 @@ pub mod laws;
 pub mod line;
 mod moves;
 pub mod scan;
+mod table;

@@ -1,12 +1,9 @@
-use mathlib.Core.Path.{_∙_}
-use Prim.Native.Nat.{_<_}
 use lib.ListN.{take}
 use Rattle.ready.proofs.Drains.{drains-room, drains-less, drains-more, drained-empty, drained-all, drained-count}
-use Rattle.ready.proofs.laws.drop_all.Given.{Over}
 use Rattle.ready.proofs.laws.drop_all.Needs as need
 
-pub index-buffer-count : need.index-buffer-count
-index-buffer-count g c =
+pub push-count-requires : need.push-count-requires
+push-count-requires g c κs =
     let tags = g .R·ReadyLine .tags in
     drains-room (tags (c .args .line .now)) (tags (c .loop-entry .line)) (c .args .buffer .now) (c .loop-entry .buffer) (c .loop-entry .count) (c .in-Some .entry)
     (c .in-Some .ensures tt .answer) (c .loop-entry .inv) (g .R·ReadyLine·met .sessions (c .args .line .now))
@@ -21,7 +18,8 @@ pub loop-entry-again : need.loop-entry-again
 loop-entry-again g c =
     let tags = g .R·ReadyLine .tags in
     drains-more (tags (c .args .line .now)) (tags (c .loop-entry .line)) (c .args .buffer .now) (c .loop-entry .buffer) (c .loop-entry .count) (c .in-Some .entry)
-    (c .in-Some .ensures tt .answer) (c .loop-entry .inv) (g .R·ReadyLine·met .sessions (c .args .line .now)) (tags (c .drop-least .last .self)) (c .in-Some .ensures tt .after)
+    (c .in-Some .ensures tt .answer) (c .loop-entry .inv) (g .R·ReadyLine·met .sessions (c .args .line .now))
+    (tags (c .drop-least .last .self)) (c .push-count .last .table) (c .push-count .result) (c .in-Some .ensures tt .after) (c .push-count .ensures .after) (c .push-count .ensures .count)
 
 pub returns : need.returns
 returns g c =
@@ -35,5 +33,5 @@ returns g c =
       rising = c .loop-entry .inv .3 .1;
       all = drained-all end none start (take (c .loop-entry .count) (c .loop-entry .buffer)) (c .loop-entry .inv .3);
       rest = c .loop-entry .inv .2;
-      emptied = c .in-rest .ensures tt .after ∙ drained-empty end none sessions;
+      emptied = drained-empty end none sessions (tags (c .drop-least .last .self)) (c .in-rest .ensures tt .after);
     }
