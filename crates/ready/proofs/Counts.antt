@@ -15,7 +15,7 @@ use Rattle.std.specs.declared.option.Option.the-variants.{Some, None}
 use Rattle.std.proofs.shelf.Lists.{getD-set-same, getD-set-other, length-set}
 use Rattle.std.proofs.shelf.Sorted.{sumBy-shuffled}
 use Rattle.std.proofs.shelf.Sums.{sumBy-cons, sumBy-push, sumBy-set, getD-le-sumBy, countBy-le-length}
-use Rattle.std.proofs.shelf.Tests.{cases-eq, cases-bool, eqb-true, eq-eqb, ne-eqb, and-parts, and-from}
+use Rattle.std.proofs.shelf.Tests.{cases-eq, cases-bool, cond-both, cond-true, cond-false, eqb-true, eq-eqb, ne-eqb, and-parts, and-from}
 use Rattle.ready.specs.Order.{Entry}
 use Rattle.ready.specs.Tags.{Tags, tag-of, entry-count}
 use Rattle.ready.specs.Entries.{entry-at, is-entry, occurrences, tag-is, Each-once, Same-entries}
@@ -77,41 +77,55 @@ once-place es xs h t s o =
     (r .0, r .1, λ i. (tag i, session i))
 
 -- the same entries in another order
-pub same-more : (ds es fs : List Entry) → Same-entries ds es → Shuffled es fs → Same-entries ds fs
-same-more ds es fs h m = λ t s. sumBy-shuffled (λ e. bit (is-entry t s e)) es fs m ∙ h t s
+pub same-shuffled : (ds es fs : List Entry) → Same-entries ds es → Shuffled es fs → Same-entries ds fs
+same-shuffled ds es fs h m = λ t s. sumBy-shuffled (λ e. bit (is-entry t s e)) es fs m ∙ h t s
 
 pub once-same : (es fs : List Entry) (xs : Tags) → Same-entries es fs → Each-once es xs → Each-once fs xs
 once-same es fs xs same h = λ t s. same t s ∙ h t s
 
+-- 1 if the tag o of session s makes the entry of tag u and session r, else 0
+makes : Option ℕ → ℕ → ℕ → ℕ → ℕ
+makes o s u r = cond (eqb s r) (tag-is o u) 0
+
+makes-none : (s u r : ℕ) → makes None s u r ≡ 0
+unfolding makes
+makes-none s u r = cond-both (eqb s r) 0 0 (λ (n : ℕ). n ≡ 0) (λ y. refl) (λ n. refl)
+
+makes-some : (t s u r : ℕ) → makes (Some t) s u r ≡ bit (is-entry u r (t, s))
+unfolding makes
+makes-some t s u r = ⊎-elim
+    (λ y. cond-true (eqb s r) (tag-is (Some t) u) 0 y ∙ sym (and-true (eqb t u) (eqb s r) y))
+    (λ n. cond-false (eqb s r) (tag-is (Some t) u) 0 n ∙ sym (and-false (eqb t u) (eqb s r) n))
+    (cases-bool (eqb s r))
+
 -- how often the tags have an entry before and after one tag is set
-module _ (xs : Tags) (s : ℕ) (o : Option ℕ) (u r : ℕ) where
-  set-here : s < length xs → r ≡ s → tag-is (tag-of (set xs s o) r) u ≡ tag-is o u
-  set-here l q = ap (λ (w : Option ℕ). tag-is w u) (ap (tag-of (set xs s o)) q ∙ getD-set-same xs s o None l)
-
-  set-there : (r ≡ s → ⊥) → tag-is (tag-of (set xs s o) r) u ≡ tag-is (tag-of xs r) u
-  set-there nq = ap (λ (w : Option ℕ). tag-is w u) (getD-set-other xs s r o None nq)
-
-pub tag-is-added : (xs : Tags) (t s : ℕ) → s < length xs → tag-of xs s ≡ None → (u r : ℕ) → tag-is (tag-of (set xs s (Some t)) r) u ≡ tag-is (tag-of xs r) u + bit (is-entry u r (t, s))
-tag-is-added xs t s l e u r = ⊎-elim
-    (λ (q : r ≡ s). omega (
+tag-is-set : (xs : Tags) (s : ℕ) (o : Option ℕ) → s < length xs → (u r : ℕ) → tag-is (tag-of (set xs s o) r) u + makes (tag-of xs s) s u r ≡ tag-is (tag-of xs r) u + makes o s u r
+unfolding makes
+tag-is-set xs s o l u r = ⊎-elim
+    (λ (q : r ≡ s).
+    let same : eqb s r ≡ true = eq-eqb s r (sym q) in
+    omega (
       arith,
-      ap (λ (w : Option ℕ). tag-is w u) (ap (tag-of xs) q ∙ e),
-      set-here xs s (Some t) u r l q,
-      and-true (eqb t u) (eqb s r) (eq-eqb s r (sym q)),
+      cond-true (eqb s r) (tag-is o u) 0 same,
+      cond-true (eqb s r) (tag-is (tag-of xs s) u) 0 same,
+      ap (λ (k : ℕ). tag-is (tag-of xs k) u) q,
+      ap (λ (w : Option ℕ). tag-is w u) (ap (tag-of (set xs s o)) q ∙ getD-set-same xs s o None l),
     ))
-    (λ nq. omega (arith, set-there xs s (Some t) u r nq, and-false (eqb t u) (eqb s r) (ne-eqb s r (λ q. nq (sym q)))))
+    (λ nq.
+    let other : eqb s r ≡ false = ne-eqb s r (λ q. nq (sym q)) in
+    omega (
+      arith,
+      cond-false (eqb s r) (tag-is o u) 0 other,
+      cond-false (eqb s r) (tag-is (tag-of xs s) u) 0 other,
+      ap (λ (w : Option ℕ). tag-is w u) (getD-set-other xs s r o None nq),
+    ))
     (cases-eq r s)
+
+tag-is-added : (xs : Tags) (t s : ℕ) → s < length xs → tag-of xs s ≡ None → (u r : ℕ) → tag-is (tag-of (set xs s (Some t)) r) u ≡ tag-is (tag-of xs r) u + bit (is-entry u r (t, s))
+tag-is-added xs t s l e u r = omega (arith, tag-is-set xs s (Some t) l u r, ap (λ (o : Option ℕ). makes o s u r) e, makes-none s u r, makes-some t s u r)
 
 pub tag-is-dropped : (xs : Tags) (t s : ℕ) → tag-of xs s ≡ Some t → (u r : ℕ) → tag-is (tag-of (set xs s None) r) u + bit (is-entry u r (t, s)) ≡ tag-is (tag-of xs r) u
-tag-is-dropped xs t s e u r = ⊎-elim
-    (λ (q : r ≡ s). omega (
-      arith,
-      ap (λ (w : Option ℕ). tag-is w u) (ap (tag-of xs) q ∙ e),
-      set-here xs s None u r (tag-within xs s t e) q,
-      and-true (eqb t u) (eqb s r) (eq-eqb s r (sym q)),
-    ))
-    (λ nq. omega (arith, set-there xs s None u r nq, and-false (eqb t u) (eqb s r) (ne-eqb s r (λ q. nq (sym q)))))
-    (cases-eq r s)
+tag-is-dropped xs t s e u r = omega (arith, tag-is-set xs s None (tag-within xs s t e) u r, ap (λ (o : Option ℕ). makes o s u r) e, makes-none s u r, makes-some t s u r)
 
 -- one entry more, of a session that has none, and one entry less
 pub once-added : (es : List Entry) (xs : Tags) (t s : ℕ) → s < length xs → tag-of xs s ≡ None → Each-once es xs → Each-once (es ++ (t, s) ∷ []) (set xs s (Some t))
@@ -122,15 +136,16 @@ pub once-dropped : (es fs : List Entry) (xs : Tags) (e : Entry) → tag-of xs (e
 once-dropped es fs xs e o less h = λ u r. omega (arith, less u r, h u r, tag-is-dropped xs (e .0) (e .1) o u r)
 
 -- how many sessions have an entry
+count-set : (xs : Tags) (s : ℕ) (o w : Option ℕ) → s < length xs → tag-of xs s ≡ w → entry-count (set xs s o) + bit (isSome w) ≡ entry-count xs + bit (isSome o)
+count-set xs s o w l e =
+    let was = ap (λ (v : Option ℕ). bit (isSome v)) e in
+    omega (arith, was, sumBy-set (λ v. bit (isSome v)) xs s o None l)
+
 pub count-added : (xs : Tags) (t s : ℕ) → s < length xs → tag-of xs s ≡ None → entry-count (set xs s (Some t)) ≡ entry-count xs + 1
-count-added xs t s l e =
-    let was = ap (λ (o : Option ℕ). bit (isSome o)) e in
-    omega (arith, was, sumBy-set (λ o. bit (isSome o)) xs s (Some t) None l)
+count-added xs t s l e = omega (arith, count-set xs s (Some t) None l e)
 
 pub count-dropped : (xs : Tags) (t s : ℕ) → tag-of xs s ≡ Some t → entry-count (set xs s None) + 1 ≡ entry-count xs
-count-dropped xs t s e =
-    let was = ap (λ (o : Option ℕ). bit (isSome o)) e in
-    omega (arith, was, sumBy-set (λ o. bit (isSome o)) xs s None None (tag-within xs s t e))
+count-dropped xs t s e = omega (arith, count-set xs s None (Some t) (tag-within xs s t e) e)
 
 pub count-most : (xs : Tags) → entry-count xs ≤ length xs
 count-most xs = countBy-le-length isSome xs

@@ -1,7 +1,8 @@
 pub mod Orders
 pub mod Leasts
-pub mod Gaps
+pub mod Places
 pub mod Counts
+pub mod Adds
 pub mod Tables
 pub mod Steps
-pub mod Drains
+pub mod Drops

@@ -6,40 +6,24 @@ use mathlib.Core.Logic.{⊎-elim}
 use Prim.Native.Nat.{ℕ, _+_, _-_, _/_, _<_, _≤_}
 use native.Mathlib.Nat.{sub-zero}
 use native.Mathlib.Omega.{arith}
-use lib.Dec.{ltb}
 use lib.ListN.{length, getD, set, take, drop}
 use Rattle.std.specs.Options.{isSome}
 use Rattle.std.specs.shelf.Lists.{sumBy}
 use Rattle.std.specs.declared.option.Option.{Option}
 use Rattle.std.specs.declared.option.Option.the-variants.{Some, None}
-use Rattle.std.specs.declared.result.Result.the-variants.{Ok, Err}
-use Rattle.calls.specs.declared.refusal.Refusal.the-variants.{NoSuchSession}
+use Rattle.std.specs.declared.result.Result.the-variants.{Ok}
 use Rattle.std.proofs.shelf.Lists.{getD-map, getD-take, getD-set-same, getD-set-other, drop-set-lt, length-append, length-drop, length-set, length-take-le, map-set, take-more-set, take-at, getD-append-left, length-push}
 use Rattle.std.proofs.shelf.Sums.{sumBy-more, sumBy-set, sumBy-take-drop}
-use Rattle.std.proofs.shelf.Tests.{cases-eq, cases-lt, cond-true, cond-false, lt-ltb, le-ltb}
+use Rattle.std.proofs.shelf.Tests.{cases-eq}
 use Rattle.ready.specs.Order.{Entry, At-most}
-use Rattle.ready.specs.Tags.{Tags, tag-of, entry-count, place-answer, free-answer, least-of}
+use Rattle.ready.specs.Tags.{Tags, tag-of, entry-count, place-answer, free-answer, add-answer, added, least-of}
 use Rattle.ready.specs.Entries.{entry-at, is-entry, occurrences, Each-once, Same-entries}
 use Rattle.ready.specs.Heaps.{Heap-ordered, first-of, tags-of}
 use Rattle.ready.specs.declared.heap.Heap.{Heap}
 use Rattle.ready.proofs.Leasts.{tag-within, equals-least, least-tag}
+use Rattle.ready.proofs.Adds.{place-is, is-free, add-answers, add-leaves}
 use Rattle.ready.proofs.Counts.{bit, once-same, once-added, once-dropped, count-added, count-dropped, count-most, count-free}
 use Rattle.ready.proofs.Tables.{length-tags, tags-from-once, first-of-least}
-
-none-from-test : (o : Option ℕ) → isSome o ≡ false → o ≡ None
-none-from-test None e = refl
-none-from-test (Some t) e = let z : _≡_ {A = Bool} true false = e in let w : _≡_ {A = ℕ} 0 1 = cc in absurd (omega arith)
-
--- what the checks of a new entry tell
-place-is : (s p : ℕ) → Ok p ≡ place-answer s → (p ≡ s) × (s < 64)
-place-is s p at = ⊎-elim
-    (λ (l : s < 64). let e : Ok p ≡ Ok s = at ∙ cond-true (ltb s 64) (Ok s) (Err NoSuchSession) (lt-ltb s 64 l) in (cc, l))
-    (λ past. let e : Ok p ≡ Err NoSuchSession = at ∙ cond-false (ltb s 64) (Ok s) (Err NoSuchSession) (le-ltb s 64 past) in let z : _≡_ {A = ℕ} 0 1 = cc in absurd (omega arith))
-    (cases-lt s 64)
-
-free-is : (b : Bool) → Ok tt ≡ free-answer b → b ≡ false
-free-is false e = refl
-free-is true e = let z : _≡_ {A = ℕ} 0 1 = cc in absurd (omega arith)
 
 -- the entry at the top
 first-long : (es : List Entry) (e : Entry) → first-of es ≡ Some e → 0 < length es
@@ -122,7 +106,10 @@ module _ (x : Heap) where
     below = let here = place-is s p at in omega (arith, length-tags front)
 
     pub free : tag-of held s ≡ None
-    free = none-from-test (tag-of held s) (sym (present-at s p at) ∙ free-is (getD (x .present) p false) ok)
+    free = is-free (tag-of held s) (getD (x .present) p false) (present-at s p at) ok
+
+    pub add-ok : Ok tt ≡ add-answer held s
+    add-ok = sym (add-answers held t s (place-is s p at .1) free)
 
     -- there is a place
     pub len-free : x .len < 64
@@ -147,13 +134,14 @@ module _ (x : Heap) where
           let was = x .ordered k a small in
           cc (longer-at k small, longer-at ((k - 1) / 2) (omega arith))
 
-      pub add-after : (ys : List Entry) → length ys ≡ length longer → Same-entries longer ys → Heap-ordered 1 (length ys) ys → Put ys grown m (set (x .present) p true) (set held s (Some t))
+      pub add-after : (ys : List Entry) → length ys ≡ length longer → Same-entries longer ys → Heap-ordered 1 (length ys) ys → Put ys grown m (set (x .present) p true) (added held t s)
       add-after ys long same ordered =
           let room : length grown ≡ 64 = ap length put ∙ length-set (x .entries) (x .len) (t, s) ∙ x .room in
           let once : Each-once longer (set held s (Some t)) = subst (λ (es : List Entry). Each-once es (set held s (Some t))) (sym longer-is) (once-added front held t s below free (x .once)) in
-          put-kept ys longer grown m (set (x .present) p true) (set held s (Some t)) (long ∙ longer-long) room (length-set held s (Some t) ∙ length-tags front) same ordered once
+          subst (Put ys grown m (set (x .present) p true)) (sym (add-leaves held t s (place-is s p at .1) free))
+          (put-kept ys longer grown m (set (x .present) p true) (set held s (Some t)) (long ∙ longer-long) room (length-set held s (Some t) ∙ length-tags front) same ordered once
           (omega (arith, count-added held t s below free, x .counted))
-          ((λ i. set (x .marked i) (place-is s p at .0 i) true) ∙ sym (map-set isSome held s (Some t)))
+          ((λ i. set (x .marked i) (place-is s p at .0 i) true) ∙ sym (map-set isSome held s (Some t))))
 
   -- the entries but for the least, with the last in its place: in order but for that, and then all
   module _ (t s : ℕ) (is : Some (t, s) ≡ least-of held) where

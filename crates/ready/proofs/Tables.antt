@@ -20,7 +20,7 @@ use Rattle.ready.specs.Least.{Is-least}
 use Rattle.ready.specs.Entries.{entry-at, is-entry, occurrences, tag-is, Each-once}
 use Rattle.ready.specs.Heaps.{Heap-ordered, first-of, tag-among, tags-of}
 use Rattle.ready.proofs.Leasts.{none-some, same-some}
-use Rattle.ready.proofs.Gaps.{top-least}
+use Rattle.ready.proofs.Places.{top-least}
 use Rattle.ready.proofs.Counts.{bit, and-false, is-itself, tag-is-one, tag-from-one, once-tag, once-place}
 
 pub length-tags : (es : List Entry) → length (tags-of es) ≡ 64

@@ -1,8 +1,9 @@
 // Moving one entry of a binary heap to its place. The children of place k are the places 2k + 1 and 2k + 2.
 ghost use mathlib.Core.Path.{_≡_};
+ghost use mathlib.Core.Bool.{cond};
 ghost use Prim.Native.Nat.{ℕ, _+_, _-_, _*_, _<_, _≤_};
 ghost use lib.ListN.{length};
-ghost use Rattle.ready.specs.Order.{At-most};
+ghost use Rattle.ready.specs.Order.{at-most, At-most};
 ghost use Rattle.ready.specs.Entries.{entry-at, Same-entries};
 ghost use Rattle.ready.specs.Heaps.{Child, Heap-ordered};
 use crate::entry::Entry;
@@ -25,7 +26,19 @@ pub fn move_up(heap: &mut [Entry])
     }
 }
 
-// Of the children of `at` the one that comes first.
+// Of two places the one whose entry comes first.
+fn earlier_place(heap: &[Entry], left: usize, right: usize) -> usize
+    requires { ⌜ left < length (now heap) ⌝ ∗ ⌜ right < length (now heap) ⌝ }
+    ensures { λ r. ⌜ r ≡ cond (at-most (entry-at (now (heap .entry)) left) (entry-at (now (heap .entry)) right)) left right ⌝ }
+{
+    if at_most(heap[left], heap[right]) {
+        left
+    } else {
+        right
+    }
+}
+
+// Of the children of `at` the one whose entry comes first.
 fn first_child(heap: &[Entry], at: usize) -> usize
     requires { ⌜ at * 2 + 1 < length (now heap) ⌝ }
     ensures child { λ r. ⌜ Child at r ⌝ }
@@ -34,8 +47,8 @@ fn first_child(heap: &[Entry], at: usize) -> usize
 {
     let left = at * 2 + 1;
     let right = left + 1;
-    if right < heap.len() && at_most(heap[right], heap[left]) {
-        right
+    if right < heap.len() {
+        earlier_place(heap, left, right)
     } else {
         left
     }

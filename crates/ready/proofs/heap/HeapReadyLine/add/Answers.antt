@@ -1,5 +1,5 @@
 use borrow.Author.Needs.{needs}
-use Rattle.ready.proofs.Steps.{present-at, len-free, add-ordered, add-after}
+use Rattle.ready.proofs.Steps.{present-at, add-ok, len-free, add-ordered, add-after}
 use Rattle.ready.proofs.heap.HeapReadyLine.add.Needs as need
 
 pub returns-in-Break-check-free : need.returns-in-Break-check-free
@@ -23,9 +23,9 @@ ghost-self c =
     (c .move-up .last .heap) (c .move-up .kept .heap) (c .move-up .ensures .same) (c .move-up .ensures .ordered) .1
 
 pub returns : need.returns
-returns c =
-    let h = present-at (c .args .self .now) (c .args .session) (c .in-Continue-place .place) (c .in-Continue-place .ensures tt) in
-    let e = add-after (c .args .self .now) (c .args .tag) (c .args .session) (c .in-Continue-place .place) (c .in-Continue-place .ensures tt) (c .in-Continue-check-free .ensures tt)
-    (c .push-self .result) (c .push-self .last .table) (c .push-self .ensures .count) (c .push-self .ensures .after)
-    (c .move-up .last .heap) (c .move-up .kept .heap) (c .move-up .ensures .same) (c .move-up .ensures .ordered) .0 in
-    record { answer = search (needs, h); after = search (needs, h, e) }
+returns c = record {
+  answer = add-ok (c .args .self .now) (c .args .tag) (c .args .session) (c .in-Continue-place .place) (c .in-Continue-place .ensures tt) (c .in-Continue-check-free .ensures tt);
+  after = add-after (c .args .self .now) (c .args .tag) (c .args .session) (c .in-Continue-place .place) (c .in-Continue-place .ensures tt) (c .in-Continue-check-free .ensures tt)
+      (c .push-self .result) (c .push-self .last .table) (c .push-self .ensures .count) (c .push-self .ensures .after)
+      (c .move-up .last .heap) (c .move-up .kept .heap) (c .move-up .ensures .same) (c .move-up .ensures .ordered) .0;
+}

@@ -26,11 +26,11 @@ Taken xs ys es = (length es + entry-count ys ≡ entry-count xs)
     × ((t s : ℕ) → occurrences t s es + tag-is (tag-of ys s) t ≡ tag-is (tag-of xs s) t)
 
 -- the same of the first n entries of a buffer, which is `start` but for those
-abbrev pub Drains : Tags → Tags → List Entry → List Entry → ℕ → Type 0
-Drains xs ys start es n = (length es ≡ 64) × (n ≤ 64) × (drop n es ≡ drop n start) × Taken xs ys (take n es)
+abbrev pub Dropped : Tags → Tags → List Entry → List Entry → ℕ → Type 0
+Dropped xs ys start es n = (length es ≡ 64) × (n ≤ 64) × (drop n es ≡ drop n start) × Taken xs ys (take n es)
 
 -- one more
-module _ (xs ys : Tags) (start es : List Entry) (n : ℕ) (e : Entry) (is : Some e ≡ least-of ys) (h : Drains xs ys start es n) where
+module _ (xs ys : Tags) (start es : List Entry) (n : ℕ) (e : Entry) (is : Some e ≡ least-of ys) (h : Dropped xs ys start es n) where
   abbrev front : List Entry
   front = take n es
 
@@ -43,11 +43,11 @@ module _ (xs ys : Tags) (start es : List Entry) (n : ℕ) (e : Entry) (is : Some
   fewer : entry-count (set ys (e .1) None) + 1 ≡ entry-count ys
   fewer = count-dropped ys (e .0) (e .1) (least .0)
 
-  pub drains-room : length xs ≡ 64 → n < 64
-  drains-room wide = omega (arith, fewer, front-long, h .3 .0, count-most xs)
+  pub dropped-room : length xs ≡ 64 → n < 64
+  dropped-room wide = omega (arith, fewer, front-long, h .3 .0, count-most xs)
 
-  pub drains-less : (zs : Tags) → zs ≡ set ys (e .1) None → entry-count zs < entry-count ys
-  drains-less zs q = omega (arith, ap entry-count q, fewer)
+  pub dropped-less : (zs : Tags) → zs ≡ set ys (e .1) None → entry-count zs < entry-count ys
+  dropped-less zs q = omega (arith, ap entry-count q, fewer)
 
   -- what ys has without e, it has with it, and it comes after e
   left : (s t : ℕ) → tag-of (set ys (e .1) None) s ≡ Some t → (tag-of ys s ≡ Some t) × Before e (t, s)
@@ -85,9 +85,9 @@ module _ (xs ys : Tags) (start es : List Entry) (n : ℕ) (e : Entry) (is : Some
         λ t s. omega (arith, sumBy-push (λ x. bit (is-entry t s x)) front e, tag-is-dropped ys (e .0) (e .1) (least .0) t s, was .3 t s),
       )
 
-  pub drains-more : length xs ≡ 64 → (zs : Tags) (fs : List Entry) (m : ℕ) → zs ≡ set ys (e .1) None → fs ≡ set es n e → m ≡ n + 1 → Drains xs zs start fs m
-  drains-more wide zs fs m rest put more =
-      let room = drains-room wide in
+  pub dropped-more : length xs ≡ 64 → (zs : Tags) (fs : List Entry) (m : ℕ) → zs ≡ set ys (e .1) None → fs ≡ set es n e → m ≡ n + 1 → Dropped xs zs start fs m
+  dropped-more wide zs fs m rest put more =
+      let room = dropped-room wide in
       let within : n < length es = omega (arith, h .0) in
       let grown : take m fs ≡ longer = (λ i. take (more i) (put i)) ∙ take-more-set es n e within in (
         ap length put ∙ length-set es n e ∙ h .0,
@@ -96,23 +96,23 @@ module _ (xs ys : Tags) (start es : List Entry) (n : ℕ) (e : Entry) (is : Some
         subst (λ (ws : Tags). Taken xs ws (take m fs)) (sym rest) (subst (Taken xs (set ys (e .1) None)) (sym grown) taken-more),
       )
 
+not-some : (o : Option ℕ) → ((t : ℕ) → o ≡ Some t → ⊥) → o ≡ None
+not-some None h = refl
+not-some (Some t) h = absurd (h t refl)
+
 -- where no entry is left, all are taken
 module _ (ys : Tags) (is : None ≡ least-of ys) where
-  not-some : (o : Option ℕ) → ((t : ℕ) → o ≡ Some t → ⊥) → o ≡ None
-  not-some None h = refl
-  not-some (Some t) h = absurd (h t refl)
-
   none-left : (s : ℕ) → tag-of ys s ≡ None
   none-left s = not-some (tag-of ys s) (is-least-from ys None is s)
 
   empty : length ys ≡ 64 → ys ≡ no-entries
   empty wide = ext-getD None ys no-entries wide (λ s l. none-left s ∙ sym (getD-replicate 64 s None None (omega arith)))
 
-  pub drained-empty : length ys ≡ 64 → (zs : Tags) → zs ≡ ys → zs ≡ no-entries
-  drained-empty wide zs same = same ∙ empty wide
+  pub left-empty : length ys ≡ 64 → (zs : Tags) → zs ≡ ys → zs ≡ no-entries
+  left-empty wide zs same = same ∙ empty wide
 
-  pub drained-all : (xs : Tags) (es : List Entry) → Taken xs ys es → Each-once es xs
-  drained-all xs es h = λ t s. omega (arith, h .3 t s, ap (λ (o : Option ℕ). tag-is o t) (none-left s))
+  pub left-all : (xs : Tags) (es : List Entry) → Taken xs ys es → Each-once es xs
+  left-all xs es h = λ t s. omega (arith, h .3 t s, ap (λ (o : Option ℕ). tag-is o t) (none-left s))
 
-  pub drained-count : length ys ≡ 64 → (xs : Tags) (start es : List Entry) (n : ℕ) → Drains xs ys start es n → n ≡ entry-count xs
-  drained-count wide xs start es n h = omega (arith, h .3 .0, length-take-le n es (omega (arith, h .0, h .1)), ap entry-count (empty wide))
+  pub left-count : length ys ≡ 64 → (xs : Tags) (start es : List Entry) (n : ℕ) → Dropped xs ys start es n → n ≡ entry-count xs
+  left-count wide xs start es n h = omega (arith, h .3 .0, length-take-le n es (omega (arith, h .0, h .1)), ap entry-count (empty wide))
