@@ -1,5 +1,5 @@
 -- What the fields of a heap say, and that each step keeps it.
-use mathlib.Core.Path.{_≡_, refl, sym, ap, subst, _∙_}
+use mathlib.Core.Path.{_≡_, sym, ap, subst, _∙_}
 use mathlib.Core.List.{List, [], _∷_, _++_, map}
 use mathlib.Core.Bool.{Bool, true, false}
 use mathlib.Core.Logic.{⊎-elim}
@@ -9,13 +9,12 @@ use native.Mathlib.Omega.{arith}
 use lib.ListN.{length, getD, set, take, drop}
 use Rattle.std.specs.Options.{isSome}
 use Rattle.std.specs.shelf.Lists.{sumBy}
-use Rattle.std.specs.declared.option.Option.{Option}
 use Rattle.std.specs.declared.option.Option.the-variants.{Some, None}
 use Rattle.std.specs.declared.result.Result.the-variants.{Ok}
 use Rattle.std.proofs.shelf.Lists.{getD-map, getD-take, getD-set-same, getD-set-other, drop-set-lt, length-append, length-drop, length-set, length-take-le, map-set, take-more-set, take-at, getD-append-left, length-push}
 use Rattle.std.proofs.shelf.Sums.{sumBy-more, sumBy-set, sumBy-take-drop}
 use Rattle.std.proofs.shelf.Tests.{cases-eq}
-use Rattle.ready.specs.Order.{Entry, At-most}
+use Rattle.ready.specs.Order.{Entry}
 use Rattle.ready.specs.Tags.{Tags, tag-of, entry-count, place-answer, free-answer, add-answer, added, least-of}
 use Rattle.ready.specs.Entries.{entry-at, is-entry, occurrences, Each-once, Same-entries}
 use Rattle.ready.specs.Heaps.{Heap-ordered, first-of, tags-of}

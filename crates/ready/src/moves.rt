@@ -1,7 +1,7 @@
 // Moving one entry of a binary heap to its place. The children of place k are the places 2k + 1 and 2k + 2.
 ghost use mathlib.Core.Path.{_≡_};
 ghost use mathlib.Core.Bool.{cond};
-ghost use Prim.Native.Nat.{ℕ, _+_, _-_, _*_, _<_, _≤_};
+ghost use Prim.Native.Nat.{ℕ, _+_, _-_, _*_, _<_};
 ghost use lib.ListN.{length};
 ghost use Rattle.ready.specs.Order.{at-most, At-most};
 ghost use Rattle.ready.specs.Entries.{entry-at, Same-entries};
