@@ -9,6 +9,9 @@ use Rattle.std.specs.declared.result.Result.{Result}
 use Rattle.std.specs.declared.result.Result.the-variants.{Ok, Err}
 use Rattle.calls.specs.declared.call.Call.{Call}
 use Rattle.calls.specs.declared.call.Call.the-variants.{Open, Enter, Start, Finish}
+use Rattle.calls.specs.Refusals.{refusal-number}
+use Rattle.calls.specs.declared.call.Answer.{Answer}
+use Rattle.calls.specs.declared.call.Answer.the-variants.{Opened, Entered, Started, Finished, Refused}
 use Rattle.trace.specs.declared.fault.LineFault.{LineFault}
 use Rattle.trace.specs.declared.field.Key.{Key}
 use Rattle.trace.specs.declared.field.Key.the-variants.{Session, Weight, Limit, Length, Ticket}
@@ -61,3 +64,31 @@ said-text at (Err fault) =
 
 abbrev pub reading-text : Reading → List ℕ
 reading-text reading = said-text (reading .at) (reading .line)
+
+-- ---- the listing
+
+-- the session that a call names, 0 where it names none
+abbrev pub session-of : Call → ℕ
+session-of (Open s w l) = s
+session-of (Enter s len t) = s
+session-of Start = 0
+session-of Finish = 0
+
+-- what was said to the call of this line
+abbrev pub answer-text : ℕ → Call → Answer → List ℕ
+answer-text at call Opened = numbered-line at ++ (codes " said=opened session=" ++ decimal (session-of call)) ++ codes "\n"
+answer-text at call (Entered mark) =
+    numbered-line at ++ (codes " said=entered session=" ++ decimal (session-of call)) ++ (codes " mark=" ++ decimal mark) ++ codes "\n"
+answer-text at call (Started s packet) =
+    numbered-line at ++ (codes " said=started session=" ++ decimal s) ++ (codes " ticket=" ++ decimal (packet .ticket)) ++
+    (codes " mark=" ++ decimal (packet .mark)) ++ codes "\n"
+answer-text at call (Finished s packet) =
+    numbered-line at ++ (codes " said=finished session=" ++ decimal s) ++ (codes " ticket=" ++ decimal (packet .ticket)) ++
+    (codes " length=" ++ decimal (packet .length)) ++ codes "\n"
+answer-text at call (Refused reason) = numbered-line at ++ (codes " said=refused number=" ++ decimal (refusal-number reason)) ++ codes "\n"
+
+-- the line of an open session at the end
+abbrev pub closing-text : ℕ → ℕ → ℕ → ℕ → List ℕ
+closing-text s weight octets waiting =
+    (codes "end=" ++ decimal s) ++ (codes " weight=" ++ decimal weight) ++ (codes " octets=" ++ decimal octets) ++
+    (codes " waiting=" ++ decimal waiting) ++ codes "\n"

@@ -61,3 +61,13 @@ pub(crate) fn put_field(out: &mut [u8], at: usize, name: &[u8], number: u32) -> 
     let middle = put(out, at, name);
     put_decimal(out, middle, number as u64)
 }
+
+// The same for a number of 64 bits, which has at most twenty digits.
+pub(crate) fn put_wide_field(out: &mut [u8], at: usize, name: &[u8], number: u64) -> usize
+    requires { ⌜ at + length (now name) + 20 ≤ length (now out) ⌝ }
+    ensures wrote { λ r. ⌜ Wrote (now (out .entry)) at (now (name .entry) ++ decimal number) (now (out .exit)) r ⌝ }
+    ensures short { λ r. ⌜ r ≤ at + length (now (name .entry)) + 20 ⌝ }
+{
+    let middle = put(out, at, name);
+    put_decimal(out, middle, number)
+}
