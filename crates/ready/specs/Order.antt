@@ -1,4 +1,4 @@
--- The order in which entries are taken. All else that speaks of an order rests on `at-most`.
+-- The order in which entries are taken: `at-most`, on which all else rests that speaks of an order.
 use mathlib.Core.Path.{_≡_}
 use mathlib.Core.Bool.{Bool, true, false, _&&_, _||_}
 use Prim.Native.Nat.{ℕ}

@@ -12,7 +12,7 @@ pub trait ReadyLine {
 
     law sessions: { (x : Self) → length (tags x) ≡ 64 };
 
-    // Adds an entry. A session above 63 is refused, and so is one that has an entry.
+    // Adds an entry. A session above 63 is refused, and then one that has an entry.
     fn add(&mut self, tag: u64, session: u32) -> Result<(), Refusal>
         ensures answer { λ r. ⌜ r ≡ add-answer (tags (now (self .entry))) session ⌝ }
         ensures after { λ _. ⌜ tags (now (self .exit)) ≡ added (tags (now (self .entry))) tag session ⌝ };
@@ -21,12 +21,12 @@ pub trait ReadyLine {
     fn least(&self) -> Option<Entry>
         ensures { λ r. ⌜ r ≡ least-of (tags (now (self .entry))) ⌝ };
 
-    // Takes the entry that comes first out.
+    // Takes out the entry that comes first.
     fn drop_least(&mut self) -> Option<Entry>
         ensures answer { λ r. ⌜ r ≡ least-of (tags (now (self .entry))) ⌝ }
         ensures after { λ r. ⌜ tags (now (self .exit)) ≡ without (tags (now (self .entry))) r ⌝ };
 
-    // Takes every entry out.
+    // Takes out every entry.
     fn clear(&mut self)
         ensures { λ _. ⌜ tags (now (self .exit)) ≡ no-entries ⌝ };
 
@@ -35,7 +35,7 @@ pub trait ReadyLine {
         ensures { λ r. ⌜ r ≡ entry-count (tags (now (self .entry))) ⌝ };
 }
 
-// The place of a session in a table of 64.
+// The place of a session in a table of 64: a session above 63 has none.
 pub fn place_of(session: u32) -> Result<usize, Refusal>
     ensures { λ r. ⌜ r ≡ place-answer session ⌝ }
 {

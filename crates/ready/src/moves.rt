@@ -54,7 +54,7 @@ fn first_child(heap: &[Entry], at: usize) -> usize
     }
 }
 
-// Puts a heap in order that is in order but for its first entry.
+// Puts a heap in order that is in order but for its first entry, whose children are at places 1 and 2.
 pub fn move_down(heap: &mut [Entry])
     requires { ⌜ Heap-ordered 3 (length (now heap)) (now heap) ⌝ }
     ensures same { λ _. ⌜ Same-entries (now (heap .entry)) (now (heap .exit)) ⌝ }

@@ -9,7 +9,7 @@ use crate::line::check_free;
 use crate::line::place_of;
 use calls::refusal::Refusal;
 
-// For each session in turn the tag of its entry, if it has one.
+// The table: for each session in turn the tag of its entry, if it has one.
 #[derive(Drop)]
 pub struct Scan {
     tags: [Option<u64>; 64],
