@@ -1,2 +1,3 @@
 // Disciplines: what they show, and what stands over any of them.
+pub mod cap;
 pub mod discipline;
