@@ -11,7 +11,7 @@ use Rattle.calls.specs.declared.call.Answer.{Answer}
 use Rattle.calls.specs.declared.call.Answer.the-variants.{Refused}
 use Rattle.calls.specs.declared.refusal.Refusal.{Refusal}
 use Rattle.sharing.specs.Rules.{enter-refusal}
-use Rattle.sharing.specs.Meanings.{Meaning, Session, General, refuses, refusal}
+use Rattle.sharing.specs.Meanings.{Meaning, General, refuses, refusal}
 use Rattle.sharing.specs.Clocked as clocked
 use Rattle.sharing.specs.Clocked.{Clocked, Clocked-step}
 use Rattle.discipline.specs.Caps.{places, room-under, cap-refusal, Step-under}

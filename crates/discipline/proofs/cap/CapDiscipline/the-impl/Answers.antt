@@ -3,7 +3,6 @@ use mathlib.Core.Path.{_≡_, sym, ap, subst}
 use Prim.Native.Nat.{ℕ, _≤_}
 use native.Mathlib.Omega.{arith}
 use lib.ListN.{length}
-use Rattle.calls.specs.declared.call.Answer.{Answer}
 use Rattle.calls.specs.declared.call.Answer.the-variants.{Refused}
 use Rattle.sharing.specs.Meanings.{Meaning, General, refuses, refusal, waiting-in}
 use Rattle.sharing.proofs.Sums.{term-le-sum}
@@ -36,11 +35,11 @@ refuses-law g x y c e ok step =
     let m : Meaning = d .meaning (x .below) in
     let number : y .cap .number ≡ x .cap .number = ap (λ t. t .number) (step .0) in
     let all : (n : Meaning) (room : ℕ → ℕ) → n ≡ m → room ≡ d .room (x .below) →
-        room-under (y .cap .number) n room ≡ room-under (x .cap .number) m (d .room (x .below)) =
-        λ n room p q i. room-under (number i) (p i) (q i) in
+    room-under (y .cap .number) n room ≡ room-under (x .cap .number) m (d .room (x .below)) =
+    λ n room p q i. room-under (number i) (p i) (q i) in
     step-cases (d .steps) (cap-refusal (x .cap .number) m c) (x .below) c (Refused e) (y .below) (step .1)
     ((room-under (y .cap .number) (d .meaning (y .below)) (d .room (y .below)) ≡ room-under (x .cap .number) m (d .room (x .below))) ×
-      (d .reach (y .below) ≡ d .reach (x .below)))
+    (d .reach (y .below) ≡ d .reach (x .below)))
     (λ reason is said same. (all _ _ (ap (d .meaning) same) (ap (d .room) same), ap (d .reach) same))
     (λ is one.
     let left = g .D·Discipline·met .refuses (x .below) (y .below) c e ok one in

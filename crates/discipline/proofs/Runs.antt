@@ -1,0 +1,27 @@
+-- A run that goes on.
+use mathlib.Core.List.{List}
+use Prim.Native.Nat.{ℕ, _+_, _<_}
+use lib.ListN.{length, getD, take, set}
+use Rattle.calls.specs.declared.call.Call.{Call}
+use Rattle.calls.specs.declared.call.Answer.{Answer}
+use Rattle.sharing.specs.Histories.{History}
+use Rattle.sharing.specs.Meanings.{Meaning}
+use Rattle.sharing.specs.Runs.{Led, extended}
+use Rattle.sharing.proofs.Runs.{extended-more, led-keeps}
+use Rattle.discipline.specs.Continues.{Continues}
+
+module _ {X : Type 0} (fresh : X → Type 0) (steps : X → Call → Answer → X → Type 0) where
+  -- one call more is one step more
+  pub led-more : (sound : X → Type 0) → ((x : X) → fresh x → sound x) → ((x y : X) (c : Call) (a : Answer) → sound x → steps x c a y → sound y) →
+      (h : History) (calls : List Call) (answers : List Answer) (i : ℕ) (call : Call) (answer : Answer) (x y : X) → i < length calls →
+      i < length answers → (sound x → steps x (getD calls i call) answer y) → Led fresh steps (extended h (take i calls) answers) x →
+      Led fresh steps (extended h (take (i + 1) calls) (set answers i answer)) y
+  led-more sound begins keeps h calls answers i call answer x y within room step led =
+      rw (extended-more h calls answers i call answer within room) (x, led, step (led-keeps fresh steps sound begins keeps _ x led))
+
+  -- what holds at the end of every run holds where a run goes on
+  pub continues-with : (meaning : X → Meaning) (P Q : History → Meaning → Type 0) → ((h : History) (x : X) → Led fresh steps h x → Q h (meaning x)) →
+      (calls : List Call) (before after : List Answer) (x y : X) → Continues fresh steps meaning P calls before after x y →
+      Continues fresh steps meaning Q calls before after x y
+  continues-with meaning P Q holds calls before after x y run =
+      record { led = run .led; holds = λ h began. holds (extended h calls after) y (run .led h began); beyond = run .beyond }
