@@ -2,13 +2,16 @@
 use mathlib.Core.List.{List}
 use Prim.Native.Nat.{ℕ, _+_, _<_}
 use lib.ListN.{length, getD, take, set}
+use Rattle.std.specs.declared.result.Result.{Result}
+use Rattle.std.specs.declared.result.Result.the-variants.{Ok, Err}
 use Rattle.calls.specs.declared.call.Call.{Call}
 use Rattle.calls.specs.declared.call.Answer.{Answer}
+use Rattle.calls.specs.declared.refusal.Refusal.{Refusal}
 use Rattle.sharing.specs.Histories.{History}
 use Rattle.sharing.specs.Meanings.{Meaning}
 use Rattle.sharing.specs.Runs.{Led, extended}
 use Rattle.sharing.proofs.Runs.{extended-more, led-keeps}
-use Rattle.discipline.specs.Continues.{Continues}
+use Rattle.discipline.specs.Continues.{Run-effect}
 
 module _ {X : Type 0} (fresh : X → Type 0) (steps : X → Call → Answer → X → Type 0) where
   -- one call more is one step more
@@ -20,8 +23,9 @@ module _ {X : Type 0} (fresh : X → Type 0) (steps : X → Call → Answer → 
       rw (extended-more h calls answers i call answer within room) (x, led, step (led-keeps fresh steps sound begins keeps _ x led))
 
   -- what holds at the end of every run holds where a run goes on
-  pub continues-with : (meaning : X → Meaning) (P Q : History → Meaning → Type 0) → ((h : History) (x : X) → Led fresh steps h x → Q h (meaning x)) →
-      (calls : List Call) (before after : List Answer) (x y : X) → Continues fresh steps meaning P calls before after x y →
-      Continues fresh steps meaning Q calls before after x y
-  continues-with meaning P Q holds calls before after x y run =
+  pub effect-with : (meaning : X → Meaning) (P Q : History → Meaning → Type 0) → ((h : History) (x : X) → Led fresh steps h x → Q h (meaning x)) →
+      (calls : List Call) (before after : List Answer) (x y : X) (r : Result ℕ Refusal) → Run-effect fresh steps meaning P calls before after x y r →
+      Run-effect fresh steps meaning Q calls before after x y r
+  effect-with meaning P Q holds calls before after x y (Ok count) run =
       record { led = run .led; holds = λ h began. holds (extended h calls after) y (run .led h began); beyond = run .beyond }
+  effect-with meaning P Q holds calls before after x y (Err reason) same = same

@@ -27,3 +27,9 @@ pub record Continues {X : Type 0} (fresh : X → Type 0) (steps : X → Call →
   pub holds : (h : History) → Led fresh steps h x → Statement (extended h calls after) (meaning y)
   -- answers beyond those of the calls are as they were
   pub beyond : drop (length calls) after ≡ drop (length calls) before
+
+-- what a row of calls did, by its result: a refused one nothing
+abbrev pub Run-effect : {X : Type 0} → (X → Type 0) → (X → Call → Answer → X → Type 0) → (X → Meaning) → (History → Meaning → Type 0) → List Call →
+    List Answer → List Answer → X → X → Result ℕ Refusal → Type 0
+Run-effect fresh steps meaning Statement calls before after x y (Ok count) = Continues fresh steps meaning Statement calls before after x y
+Run-effect fresh steps meaning Statement calls before after x y (Err reason) = (y ≡ x) × (after ≡ before)

@@ -136,8 +136,6 @@ pub impl<D: Discipline + Drop> Discipline for Cap<D> as CapDiscipline {
     }
 }
 
-pub impl<D: SelfClockedDiscipline + Drop> SelfClockedDiscipline for Cap<
-    D,
-> as CapSelfClockedDiscipline {
+pub impl<D: SelfClockedDiscipline + Drop> SelfClockedDiscipline for Cap<D> as CapSelfClocked {
     ghost clocked = { λ x. D·SelfClockedDiscipline .clocked (x .below) };
 }

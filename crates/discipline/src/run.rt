@@ -1,8 +1,7 @@
 // Calls in a row on any discipline, and what every history of them keeps.
 ghost use mathlib.Core.Path.{_≡_};
-ghost use Rattle.std.specs.Results.{Cases};
 ghost use Rattle.sharing.specs.Statements.{Order-preserved, Fair};
-ghost use Rattle.discipline.specs.Continues.{run-answer, Continues};
+ghost use Rattle.discipline.specs.Continues.{run-answer, Run-effect};
 use crate::discipline::Discipline;
 use crate::discipline::SelfClockedDiscipline;
 use calls::call::Answer;
@@ -54,7 +53,7 @@ pub fn run<D: Discipline>(
     answers: &mut [Answer],
 ) -> Result<usize, Refusal>
     ensures answer { λ r. ⌜ r ≡ run-answer (now (calls .entry)) (now (answers .entry)) ⌝ }
-    ensures effect { λ r. ⌜ Cases r (λ n. Continues (D·Discipline .fresh) (D·Discipline .steps) (D·Discipline .meaning) Order-preserved (now (calls .entry)) (now (answers .entry)) (now (answers .exit)) (now (line .entry)) (now (line .exit))) (λ reason. (now (line .exit) ≡ now (line .entry)) × (now (answers .exit) ≡ now (answers .entry))) ⌝ }
+    ensures effect { λ r. ⌜ Run-effect (D·Discipline .fresh) (D·Discipline .steps) (D·Discipline .meaning) Order-preserved (now (calls .entry)) (now (answers .entry)) (now (answers .exit)) (now (line .entry)) (now (line .exit)) r ⌝ }
 {
     if answers.len() < calls.len() {
         return Err(Refusal::ShortBuffer);
@@ -72,7 +71,7 @@ pub fn run_self_clocked<D: SelfClockedDiscipline>(
     answers: &mut [Answer],
 ) -> Result<usize, Refusal>
     ensures answer { λ r. ⌜ r ≡ run-answer (now (calls .entry)) (now (answers .entry)) ⌝ }
-    ensures effect { λ r. ⌜ Cases r (λ n. Continues (D·Discipline .fresh) (D·Discipline .steps) (D·Discipline .meaning) Fair (now (calls .entry)) (now (answers .entry)) (now (answers .exit)) (now (line .entry)) (now (line .exit))) (λ reason. (now (line .exit) ≡ now (line .entry)) × (now (answers .exit) ≡ now (answers .entry))) ⌝ }
+    ensures effect { λ r. ⌜ Run-effect (D·Discipline .fresh) (D·Discipline .steps) (D·Discipline .meaning) Fair (now (calls .entry)) (now (answers .entry)) (now (answers .exit)) (now (line .entry)) (now (line .exit)) r ⌝ }
 {
     run(line, calls, answers)
 }

@@ -3,7 +3,7 @@ use Rattle.calls.specs.declared.call.Answer.the-variants.{Refused}
 use Rattle.sharing.specs.Clocked.{Clocked-step}
 use Rattle.discipline.specs.Caps.{cap-refusal}
 use Rattle.discipline.proofs.Caps.{step-cases, clocked-refused}
-use Rattle.discipline.proofs.cap.CapSelfClockedDiscipline.the-impl.Needs as need
+use Rattle.discipline.proofs.cap.CapSelfClocked.the-impl.Needs as need
 
 pub clocked-steps-law : need.clocked-steps-law
 clocked-steps-law g x y c a ok step =
