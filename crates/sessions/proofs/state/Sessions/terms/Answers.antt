@@ -1,0 +1,14 @@
+use borrow.Author.Needs.{needs}
+use Rattle.calls.specs.declared.call.Terms.{Terms}
+use Rattle.sessions.proofs.Reading.{asked-open, asked-refused}
+use Rattle.sessions.proofs.state.Sessions.terms.Needs as need
+
+pub returns-in-Break-account : need.returns-in-Break-account
+returns-in-Break-account c =
+    search (
+      needs,
+      asked-refused {A = Terms} (c .args .self .now) (c .args .session) (λ t. record { weight = t .weight; limit = t .limit }) (c .in-Break-account .field-0 .0) (c .in-Break-account .ensures tt),
+    )
+
+pub returns : need.returns
+returns c = asked-open (c .args .self .now) (c .args .session) _ (c .in-Continue-account .account) (c .in-Continue-account .ensures tt)
