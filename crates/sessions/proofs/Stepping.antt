@@ -18,7 +18,7 @@ use Rattle.calls.specs.declared.call.Service.{Service}
 use Rattle.calls.specs.declared.call.Terms.{Terms}
 use Rattle.calls.specs.declared.refusal.Refusal.{Refusal}
 use Rattle.calls.specs.declared.refusal.Refusal.the-variants.{NoSuchSession, NotOpen, Full, ServerBusy}
-use Rattle.waiting.specs.Queues.{queue, first-of, put, first-answer}
+use Rattle.waiting.specs.Queues.{queue, first-of, rest-of, put, first-answer}
 use Rattle.waiting.specs.Queues as queues
 use Rattle.waiting.proofs.Using.{first-some, of-session-ok, of-session-err}
 use Rattle.sharing.specs.Rules.{check, open-refusal, room-beside}
@@ -138,12 +138,18 @@ module _ (x : Sessions) (s : ℕ) where
         ap (taken s) (sym (ok .1) ∙ ap first-of (sym (waiting-is-queue x s)))
         ∙ sym (cond-true (ltb s 64) (taken s (first-of (waiting-in (meaning-of x) s))) (Err NoSuchSession) (lt-ltb s 64 (ok .0))) ∙ take-free
 
-    module _ (packet : Packet) (first : Ok (Some packet) ≡ first-answer (queue (x .parts .waiting)) s) where
+    module _ (o : Option Packet) (packet : Packet) (answer : Ok o ≡ first-answer (queue (x .parts .waiting)) s) (is-some : o ≡ Some packet) where
+      found : (s < 64) × (queue (x .parts .waiting) s ≡ packet ∷ rest-of (queue (x .parts .waiting) s))
+      found = first-some (queue (x .parts .waiting)) s packet (sym answer ∙ ap Ok is-some)
+
       take-low : s < 64
-      take-low = first-some (queue (x .parts .waiting)) s packet (sym first) .0
+      take-low = found .0
+
+      pub take-ok : Ok (record { session = s; packet = packet }) ≡ take-answer (meaning-of x) s
+      take-ok = ap (taken s) (sym is-some) ∙ take-first o answer
 
       take-some : 0 < length (queue (x .parts .waiting) s)
-      take-some = omega (arith, ap length (first-some (queue (x .parts .waiting)) s packet (sym first) .1))
+      take-some = omega (arith, ap length (found .1))
 
       module _ (after : Parts) (seats : after .seats ≡ x .parts .seats)
           (emptied : queue (after .waiting) ≡ queues.after-take (queue (x .parts .waiting)) s)
