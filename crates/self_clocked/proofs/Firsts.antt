@@ -1,0 +1,99 @@
+-- The marks of the first waiting packets, and what each call makes of them.
+use mathlib.Core.Bool.{Bool, true, false, cond}
+use mathlib.Core.List.{List, [], _∷_, _++_, map}
+use mathlib.Core.Logic.{_⊎_, inl, inr}
+use mathlib.Core.Path.{_≡_, refl, sym, ap, subst, _∙_}
+use Prim.Native.Nat.{ℕ, zero, suc, _+_, _<_, _≤_}
+use native.Mathlib.Omega.{arith}
+use lib.Dec.{eqb}
+use lib.ListN.{length, set}
+use Rattle.std.specs.Iters.{counting}
+use Rattle.std.specs.Options.{mapped}
+use Rattle.std.specs.declared.option.Option.{Option}
+use Rattle.std.specs.declared.option.Option.the-variants.{Some, None}
+use Rattle.std.proofs.shelf.Counted.{fill-by-all, length-map-counting, getD-map-counting}
+use Rattle.std.proofs.shelf.Lists.{getD-set-same, getD-set-other, length-set, set-set}
+use Rattle.std.proofs.shelf.Tests.{cases-eq, eq-eqb, ne-eqb}
+use Rattle.calls.specs.declared.call.Packet.{Packet}
+use Rattle.calls.specs.declared.call.Service.{Service}
+use Rattle.ready.specs.Order.{Entry}
+use Rattle.ready.specs.Tags.{Tags, tag-of, least-of}
+use Rattle.ready.proofs.Leasts.{none-some, same-some, least-tag, least-within}
+use Rattle.sharing.specs.Meanings.{Session, Meaning, waiting-of, waiting-in, with-session, after-first, after-open, after-enter, after-start, after-finish}
+use Rattle.sharing.proofs.Pending.{by-session}
+use Rattle.self_clocked.specs.Exact.{first-mark, first-marks, with-first, first-with, next}
+
+-- ---- as a list
+
+pub first-marks-length : (m : Meaning) → length (first-marks m) ≡ 64
+unfolding first-marks
+first-marks-length m = length-map-counting (λ s. first-mark (waiting-in m s)) 0 64
+
+pub first-marks-at : (m : Meaning) (s : ℕ) → s < 64 → tag-of (first-marks m) s ≡ first-mark (waiting-in m s)
+unfolding first-marks
+first-marks-at m s low = getD-map-counting (λ n. first-mark (waiting-in m n)) 0 64 s s None low (omega arith)
+
+pub first-marks-from : (m : Meaning) (xs : Tags) → length xs ≡ 64 → ((s : ℕ) → s < 64 → tag-of xs s ≡ first-mark (waiting-in m s)) → xs ≡ first-marks m
+unfolding first-marks
+first-marks-from m xs long each = fill-by-all (λ n. first-mark (waiting-in m n)) xs 64 None long each
+
+-- ---- where one session's packets change
+
+-- y has the packets of m, but for those of session n
+abbrev pub Only : ℕ → List Packet → Meaning → Meaning → Type 0
+Only n packets m y = (s : ℕ) → waiting-in y s ≡ cond (eqb n s) packets (waiting-in m s)
+
+pub only-with : (m : Meaning) (n : ℕ) (new : Option Session) (service : Option Service) → Only n (waiting-of new) m (with-session m n new service)
+only-with m n new service s = at-test (eqb n s)
+  where
+    at-test : (b : Bool) → waiting-of (cond b new (m .session s)) ≡ cond b (waiting-of new) (waiting-in m s)
+    at-test true = refl
+    at-test false = refl
+
+pub first-marks-only : (m y : Meaning) (n : ℕ) (packets : List Packet) → n < 64 → Only n packets m y → first-marks y ≡ set (first-marks m) n (first-mark packets)
+first-marks-only m y n packets low only =
+    sym
+    (first-marks-from y (set (first-marks m) n (first-mark packets)) (length-set (first-marks m) n (first-mark packets) ∙ first-marks-length m)
+    (λ s l. at-place s l (cases-eq s n) ∙ sym (ap first-mark (only s))))
+  where
+    at-place : (s : ℕ) → s < 64 → (s ≡ n) ⊎ (s ≡ n → ⊥) →
+        tag-of (set (first-marks m) n (first-mark packets)) s ≡ first-mark (cond (eqb n s) packets (waiting-in m s))
+    at-place s l (inl e) =
+        let inside : n < length (first-marks m) = omega (arith, first-marks-length m) in
+        ap (tag-of (set (first-marks m) n (first-mark packets))) e ∙ getD-set-same (first-marks m) n (first-mark packets) None inside ∙
+        ap (λ b. first-mark (cond b packets (waiting-in m s))) (sym (eq-eqb n s (sym e)))
+    at-place s l (inr ne) =
+        getD-set-other (first-marks m) n s (first-mark packets) None ne ∙ first-marks-at m s l ∙
+        ap (λ b. first-mark (cond b packets (waiting-in m s))) (sym (ne-eqb n s (λ e. ne (sym e))))
+
+-- the first marks are the same where the first packet is
+pub first-marks-same : (m y : Meaning) (n : ℕ) (packets : List Packet) → Only n packets m y → first-mark packets ≡ first-mark (waiting-in m n) →
+    first-marks y ≡ first-marks m
+first-marks-same m y n packets only same =
+    first-marks-from m (first-marks y) (first-marks-length y)
+    (λ s l.
+    first-marks-at y s l ∙ ap first-mark (only s) ∙
+    by-session (λ k b. first-mark (cond b packets (waiting-in m k)) ≡ first-mark (waiting-in m k)) n same (λ k. refl) s)
+
+-- ---- what the next packet is
+
+first-marked : (packets : List Packet) (t : ℕ) → first-mark packets ≡ Some t → (p : Packet) × (packets ≡ p ∷ after-first packets) × (p .mark ≡ t)
+first-marked [] t e = absurd (none-some t e)
+first-marked (p ∷ ps) t e = (p, refl, same-some (p .mark) t e)
+
+-- the least entry of the first marks is that of a first packet
+pub record First-of (m : Meaning) (entry : Entry) : Type 0 where
+  pub session : entry .1 < 64
+  pub packet : Packet
+  pub first : waiting-in m (entry .1) ≡ packet ∷ after-first (waiting-in m (entry .1))
+  pub mark : packet .mark ≡ entry .0
+
+pub least-first : (m : Meaning) (entry : Entry) → Some entry ≡ least-of (first-marks m) → First-of m entry
+least-first m entry is =
+    let low : entry .1 < 64 = omega (arith, least-within (first-marks m) entry is, first-marks-length m) in
+    let found = first-marked (waiting-in m (entry .1)) (entry .0) (sym (first-marks-at m (entry .1) low) ∙ least-tag (first-marks m) entry is) in
+    record { session = low; packet = found .0; first = found .1; mark = found .2 }
+
+pub next-is : (m : Meaning) (entry : Entry) (p : Packet) (ps : List Packet) → Some entry ≡ least-of (first-marks m) → waiting-in m (entry .1) ≡ p ∷ ps →
+    next m ≡ Some (record { session = entry .1; packet = p })
+next-is m entry p ps is first = ap (first-with m) (sym is) ∙ ap (with-first (entry .1)) first

@@ -1,0 +1,21 @@
+-- What the functions on marks and reach answer, for any weight.
+use mathlib.Core.Bool.{cond}
+use Prim.Native.Nat.{ℕ, max}
+use lib.Dec.{leb}
+use Rattle.std.specs.declared.result.Result.{Result}
+use Rattle.std.specs.declared.result.Result.the-variants.{Ok, Err}
+use Rattle.calls.specs.Strides.{within}
+use Rattle.calls.specs.declared.refusal.Refusal.{Refusal}
+use Rattle.calls.specs.declared.refusal.Refusal.the-variants.{BadWeight, OutOfReach}
+use Rattle.sharing.specs.Rules.{mark-after, ceiling, reach-from}
+
+-- a mark above the ceiling is not given
+abbrev pub under-ceiling : ℕ → Result ℕ Refusal
+under-ceiling mark = cond (leb mark ceiling) (Ok mark) (Err OutOfReach)
+
+-- a weight is 1 to 16
+abbrev pub mark-answer : ℕ → ℕ → ℕ → ℕ → Result ℕ Refusal
+mark-answer last clock length weight = cond (within weight 16) (under-ceiling (mark-after last clock length weight)) (Err BadWeight)
+
+abbrev pub reach-answer-at : ℕ → ℕ → ℕ → Result ℕ Refusal
+reach-answer-at last clock weight = cond (within weight 16) (Ok (reach-from (max last clock) weight)) (Err BadWeight)

@@ -1,0 +1,2 @@
+// The self-clocked discipline.
+mod marks;
