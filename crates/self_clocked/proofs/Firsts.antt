@@ -37,6 +37,10 @@ pub first-marks-from : (m : Meaning) (xs : Tags) → length xs ≡ 64 → ((s : 
 unfolding first-marks
 first-marks-from m xs long each = fill-by-all (λ n. first-mark (waiting-in m n)) xs 64 None long each
 
+pub first-marks-equal : (m y : Meaning) → ((s : ℕ) → waiting-in y s ≡ waiting-in m s) → first-marks y ≡ first-marks m
+unfolding first-marks
+first-marks-equal m y same = λ i. map (λ s. first-mark (same s i)) (counting 0 64)
+
 -- ---- where one session's packets change
 
 -- y has the packets of m, but for those of session n

@@ -1,2 +1,5 @@
 pub mod Divisions
 pub mod Firsts
+pub mod Keeps
+pub mod Steps
+pub mod Idles
