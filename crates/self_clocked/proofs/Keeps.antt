@@ -26,7 +26,7 @@ use Rattle.self_clocked.proofs.Firsts.{Only, only-with, first-marks-length, fi
 
 -- ---- the waiting packets after each call
 
-all-same : (m y : Meaning) → ((s : ℕ) → waiting-in y s ≡ waiting-in m s) → all-waiting y ≡ all-waiting m
+pub all-same : (m y : Meaning) → ((s : ℕ) → waiting-in y s ≡ waiting-in m s) → all-waiting y ≡ all-waiting m
 all-same m y same = λ i. sum-below 64 (λ s. length (same s i))
 
 pub open-waiting : (m : Meaning) (n weight limit : ℕ) → m .session n ≡ None → (s : ℕ) → waiting-in (after-open m n weight limit) s ≡ waiting-in m s

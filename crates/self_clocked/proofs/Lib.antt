@@ -3,3 +3,8 @@ pub mod Firsts
 pub mod Keeps
 pub mod Steps
 pub mod Idles
+pub mod Entries
+pub mod Starts
+pub mod Admits
+pub mod Ranges
+pub mod Calls

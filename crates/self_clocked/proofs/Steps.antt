@@ -31,6 +31,7 @@ use Rattle.sharing.specs.Meanings as step
 use Rattle.sharing.specs.Clocked.{Clocked, Marks, Clocked-step}
 use Rattle.sharing.specs.Clocked as marks
 use Rattle.sharing.proofs.Steps.{ruled-clocked}
+use Rattle.sessions.specs.Verdicts.{decided, settled}
 use Rattle.self_clocked.specs.Exact.{
   room-of,
   reach-of,
@@ -44,8 +45,6 @@ use Rattle.self_clocked.specs.Exact.{
   started-at,
   finished-at,
   accepted-after,
-  answer-unless,
-  after-unless,
   answer-to,
   after,
   Exact,
@@ -100,7 +99,7 @@ next-of-some m some = go (least-of (first-marks m)) refl
               omega (arith, first .mark);
         }
 
-passes : (test : Bool) (reason : Refusal) (others : Option Refusal) → check test reason others ≡ None → (test ≡ true) × (others ≡ None)
+pub passes : (test : Bool) (reason : Refusal) (others : Option Refusal) → check test reason others ≡ None → (test ≡ true) × (others ≡ None)
 passes true reason others e = (refl, e)
 passes false reason others e = let z : _≡_ {A = ℕ} 0 1 = cc in let no : ⊥ = omega arith in absurd no
 
@@ -136,7 +135,7 @@ call-general : (x : Clocked) (call : Call) → General (x .meaning) (refusal-of 
 call-general x call = go (refusal-of x call) refl
   where
     go : (o : Option Refusal) → refusal-of x call ≡ o →
-        General (x .meaning) (refusal-of x call) (after-unless o x (accepted-after x call) .meaning) call (answer-unless o (accepted-answer x call))
+        General (x .meaning) (refusal-of x call) (settled o x (accepted-after x call) .meaning) call (decided o (accepted-answer x call))
     go (Some reason) is = step.refuses is refl
     go None is = accepted-general x call is
 
@@ -169,7 +168,7 @@ module _ (x : Clocked) (none-above : (s : ℕ) → 64 ≤ s → x .meaning .sess
   call-marks : (call : Call) → Marks x (after x call) call (answer-to x call)
   call-marks call = go (refusal-of x call) refl
     where
-      go : (o : Option Refusal) → refusal-of x call ≡ o → Marks x (after-unless o x (accepted-after x call)) call (answer-unless o (accepted-answer x call))
+      go : (o : Option Refusal) → refusal-of x call ≡ o → Marks x (settled o x (accepted-after x call)) call (decided o (accepted-answer x call))
       go (Some reason) is = marks.refuses (record { clock = refl; last = refl })
       go None is = accepted-marks call is
 
@@ -197,6 +196,6 @@ accepted-refused x Finish reason e = go (x .meaning .in-service) e
 pub exact-refused : (x y : Clocked) (call : Call) (reason : Refusal) → Exact x call (Refused reason) y → y ≡ x
 exact-refused x y call reason e = e .after ∙ go (refusal-of x call) (sym (e .answer))
   where
-    go : (o : Option Refusal) → answer-unless o (accepted-answer x call) ≡ Refused reason → after-unless o x (accepted-after x call) ≡ x
+    go : (o : Option Refusal) → decided o (accepted-answer x call) ≡ Refused reason → settled o x (accepted-after x call) ≡ x
     go (Some other) is = refl
     go None is = accepted-refused x call reason is

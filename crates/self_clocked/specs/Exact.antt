@@ -1,10 +1,13 @@
 -- The exact rule of the self-clocked line: what each call answers, and the state that it leaves.
 use mathlib.Core.List.{List, [], _∷_, map}
 use mathlib.Core.Path.{_≡_}
-use Prim.Native.Nat.{ℕ, max}
+use Prim.Native.Nat.{ℕ, _<_, max}
+use lib.ListN.{set}
 use Rattle.std.specs.Iters.{counting}
 use Rattle.std.specs.declared.option.Option.{Option}
 use Rattle.std.specs.declared.option.Option.the-variants.{Some, None}
+use Rattle.std.specs.declared.result.Result.{Result}
+use Rattle.std.specs.declared.result.Result.the-variants.{Ok}
 use Rattle.calls.specs.declared.call.Packet.{Packet}
 use Rattle.calls.specs.declared.call.Service.{Service}
 use Rattle.calls.specs.declared.call.Call.{Call}
@@ -14,11 +17,12 @@ use Rattle.calls.specs.declared.call.Answer.the-variants.{Opened, Entered, Star
 use Rattle.calls.specs.declared.refusal.Refusal.{Refusal}
 use Rattle.calls.specs.declared.refusal.Refusal.the-variants.{NothingWaiting, NothingInService}
 use Rattle.ready.specs.Order.{Entry}
-use Rattle.ready.specs.Tags.{Tags, least-of}
+use Rattle.ready.specs.Tags.{Tags, added, add-answer, no-entries, least-of}
 use Rattle.sharing.specs.Histories.{weight-in}
 use Rattle.sharing.specs.Rules.{mark-after, reach-from, room-beside}
 use Rattle.sharing.specs.Meanings.{Meaning, terms-at, waiting-in, all-waiting, refusal, after-open, after-enter, after-start, after-finish}
-use Rattle.sharing.specs.Clocked.{Clocked, with-mark, while-waiting}
+use Rattle.sharing.specs.Clocked.{Clocked, New, with-mark, while-waiting}
+use Rattle.sessions.specs.Verdicts.{verdict, decided, settled}
 
 -- ---- why a call is refused
 
@@ -61,6 +65,10 @@ next m = first-with m (least-of (first-marks m))
 
 abbrev pub mark-for : Clocked → ℕ → ℕ → ℕ
 mark-for x s length = mark-after (x .last s) (x .clock) length (weight-at x s)
+
+-- the mark of a packet of this length, or why it does not enter
+abbrev pub enter-answer : Clocked → ℕ → ℕ → Result ℕ Refusal
+enter-answer x s length = verdict (refusal-of x (Enter s length 0)) (mark-for x s length)
 
 -- where nothing waits a start is refused
 abbrev pub started-with : Option Service → Answer
@@ -112,25 +120,34 @@ accepted-after x Finish = finished-at x (x .meaning .in-service)
 
 -- ---- every call
 
--- a refused call is answered with the reason
-abbrev pub answer-unless : Option Refusal → Answer → Answer
-answer-unless None answer = answer
-answer-unless (Some reason) answer = Refused reason
-
--- and changes nothing
-abbrev pub after-unless : Option Refusal → Clocked → Clocked → Clocked
-after-unless None x y = y
-after-unless (Some reason) x y = x
-
+-- a refused call is answered with the reason, and changes nothing
 abbrev pub answer-to : Clocked → Call → Answer
-answer-to x call = answer-unless (refusal-of x call) (accepted-answer x call)
+answer-to x call = decided (refusal-of x call) (accepted-answer x call)
 
 abbrev pub after : Clocked → Call → Clocked
-after x call = after-unless (refusal-of x call) x (accepted-after x call)
+after x call = settled (refusal-of x call) x (accepted-after x call)
 
 pub record Exact (x : Clocked) (call : Call) (a : Answer) (y : Clocked) : Type 0 where
   pub answer : a ≡ answer-to x call
   pub after : y ≡ after x call
+
+-- ---- the ready line while a packet starts
+
+-- nothing is in service, the first waiting packet of session s has the mark, and the ready line has every entry but that of s
+pub record Due (tags : Tags) (m : Meaning) (mark s : ℕ) : Type 0 where
+  pub none-served : m .in-service ≡ None
+  pub session : s < 64
+  pub first : first-mark (waiting-in m s) ≡ Some mark
+  pub others : tags ≡ set (first-marks m) s None
+
+-- its session comes in again with the next packet, if one waits
+abbrev pub renewed : Tags → Option Packet → ℕ → Tags
+renewed tags None s = tags
+renewed tags (Some packet) s = added tags (packet .mark) s
+
+abbrev pub renew-answer : Tags → Option Packet → ℕ → Result (Unit {0}) Refusal
+renew-answer tags None s = Ok tt
+renew-answer tags (Some packet) s = add-answer tags s
 
 -- ---- what every call keeps
 
@@ -148,3 +165,8 @@ pub record Reset (x : Clocked) : Type 0 where
 pub record Sound (tags : Tags) (x : Clocked) : Type 0 where
   pub ready : tags ≡ first-marks (x .meaning)
   pub idle : Idle (x .meaning) → Reset x
+
+-- a new line
+pub record Fresh (tags : Tags) (x : Clocked) : Type 0 where
+  pub ready : tags ≡ no-entries
+  pub new : New x

@@ -1,0 +1,268 @@
+-- Each call as it is made is the exact step, and the line is sound after it.
+use mathlib.Core.Bool.{Bool, true, false, cond, not}
+use mathlib.Core.List.{List, [], _∷_}
+use mathlib.Core.Path.{_≡_, refl, sym, ap, subst, _∙_}
+use Prim.Native.Nat.{ℕ, zero, suc, _<_, _≤_, max}
+use native.Mathlib.Omega.{arith}
+use lib.Dec.{eqb, ltb}
+use lib.ListN.{length, getD, set, replicate}
+use Rattle.std.specs.Options.{isSome, mapped}
+use Rattle.std.specs.declared.option.Option.{Option}
+use Rattle.std.specs.declared.option.Option.the-variants.{Some, None}
+use Rattle.std.specs.declared.result.Result.{Result}
+use Rattle.std.specs.declared.result.Result.the-variants.{Ok, Err}
+use Rattle.std.proofs.shelf.Lists.{getD-replicate}
+use Rattle.std.proofs.shelf.Tests.{cond-true, ltb-true}
+use Rattle.calls.specs.Strides.{within}
+use Rattle.calls.specs.declared.call.Packet.{Packet}
+use Rattle.calls.specs.declared.call.Service.{Service}
+use Rattle.calls.specs.declared.call.Terms.{Terms}
+use Rattle.calls.specs.declared.call.Call.{Call}
+use Rattle.calls.specs.declared.call.Call.the-variants.{Open, Enter, Start, Finish}
+use Rattle.calls.specs.declared.call.Answer.{Answer}
+use Rattle.calls.specs.declared.call.Answer.the-variants.{Entered, Refused}
+use Rattle.calls.specs.declared.refusal.Refusal.{Refusal}
+use Rattle.calls.specs.declared.refusal.Refusal.the-variants.{NoSuchSession, NotOpen, BadLength, Full, OutOfReach, BadWeight, NothingWaiting, ServerBusy}
+use Rattle.ready.specs.Tags.{Tags, tag-of, no-entries, least-of, without}
+use Rattle.ready.proofs.Leasts.{least-tag}
+use Rattle.sharing.specs.Histories.{weight-in}
+use Rattle.sharing.specs.Rules.{check, room-beside, reach-from, length-refusal, finish-refusal}
+use Rattle.sharing.specs.Meanings.{Session, Meaning, nothing-open, waiting-in, all-waiting, after-open, after-first, after-finish, if-open, terms-answer, reach-answer}
+use Rattle.sharing.specs.Clocked.{Clocked, while-waiting}
+use Rattle.sharing.proofs.Pending.{terms-in, finish-waiting, open-allowed}
+use Rattle.discipline.specs.Answers.{opened, entered, started, finished}
+use Rattle.sessions.specs.Verdicts.{verdict, decided, settled, why-open, why-put, why-start, first-in, taken, served, finish-answer, after-served}
+use Rattle.self_clocked.specs.Exact.{
+  room-of,
+  reach-of,
+  refusal-of,
+  first-marks,
+  with-first,
+  first-with,
+  next,
+  mark-for,
+  enter-answer,
+  accepted-answer,
+  accepted-after,
+  started-with,
+  finished-with,
+  opened-at,
+  entered-at,
+  started-at,
+  finished-at,
+  Exact,
+  Due,
+  Sound,
+  Fresh,
+}
+use Rattle.self_clocked.specs.Marks.{reach-answer-at}
+use Rattle.self_clocked.specs.States.{last-in}
+use Rattle.self_clocked.proofs.Admits.{ok-passes, In-range}
+use Rattle.self_clocked.proofs.Firsts.{first-marks-at, first-marks-from, least-first}
+use Rattle.self_clocked.proofs.Keeps.{all-same, sound-opened, sound-entered, sound-started, sound-finished}
+use Rattle.self_clocked.proofs.Steps.{passes, next-to-start}
+use Rattle.self_clocked.proofs.Entries.{put-open}
+
+-- the exact step of a call, and a sound line after it
+abbrev pub Stepped : Tags → Clocked → Call → Answer → Clocked → Type 0
+Stepped tags x call answer y = Exact x call answer y × Sound tags y
+
+-- ---- a verdict tells whether there is a reason
+
+pub verdict-err : {A : Type 0} (o : Option Refusal) (value : A) (reason : Refusal) → Err reason ≡ verdict o value → o ≡ Some reason
+verdict-err None value reason e = let z : _≡_ {A = ℕ} 0 1 = cc in let no : ⊥ = omega arith in absurd no
+verdict-err (Some other) value reason e = cc
+
+pub verdict-ok : {A : Type 0} (o : Option Refusal) (value given : A) → Ok given ≡ verdict o value → (o ≡ None) × (given ≡ value)
+verdict-ok None value given e = (refl, cc)
+verdict-ok (Some other) value given e = let z : _≡_ {A = ℕ} 0 1 = cc in let no : ⊥ = omega arith in absurd no
+
+-- ---- a refused call
+
+pub step-refused : (tags : Tags) (x y : Clocked) (call : Call) (reason : Refusal) → refusal-of x call ≡ Some reason → y ≡ x → Sound tags x →
+    Stepped tags x call (Refused reason) y
+step-refused tags x y call reason why same ok = (
+  record { answer = sym (ap (λ o. decided o (accepted-answer x call)) why); after = same ∙ sym (ap (λ o. settled o x (accepted-after x call)) why) },
+  subst (Sound tags) (sym same) ok,
+)
+
+-- ---- an accepted one
+
+step-accepted : (tags : Tags) (x y : Clocked) (call : Call) (answer : Answer) → refusal-of x call ≡ None → answer ≡ accepted-answer x call →
+    y ≡ accepted-after x call → Sound tags y → Stepped tags x call answer y
+step-accepted tags x y call answer why is to ok = (
+  record { answer = is ∙ sym (ap (λ o. decided o (accepted-answer x call)) why); after = to ∙ sym (ap (λ o. settled o x (accepted-after x call)) why) },
+  ok,
+)
+
+-- ---- open
+
+pub step-opened : (tags : Tags) (x : Clocked) (y : Meaning) (s weight limit : ℕ) (r : Result (Unit {0}) Refusal) →
+    r ≡ verdict (why-open (x .meaning) s weight limit) tt →
+    y ≡ settled (why-open (x .meaning) s weight limit) (x .meaning) (after-open (x .meaning) s weight limit) → Sound tags x →
+    Stepped tags x (Open s weight limit) (opened r) (record { meaning = y; clock = x .clock; last = x .last })
+step-opened tags x y s weight limit r answer to ok = go (why-open (x .meaning) s weight limit) refl answer to
+  where
+    go : (o : Option Refusal) → why-open (x .meaning) s weight limit ≡ o → r ≡ verdict o tt → y ≡ settled o (x .meaning) (after-open (x .meaning) s weight limit) →
+        Stepped tags x (Open s weight limit) (opened r) (record { meaning = y; clock = x .clock; last = x .last })
+    go (Some reason) why is to =
+        subst (λ (q : Result (Unit {0}) Refusal). Stepped tags x (Open s weight limit) (opened q) (record { meaning = y; clock = x .clock; last = x .last })) (sym is)
+        (step-refused tags x (record { meaning = y; clock = x .clock; last = x .last }) (Open s weight limit) reason why
+        (λ i. record { meaning = to i; clock = x .clock; last = x .last }) ok)
+    go None why is to =
+        let may = open-allowed (x .meaning) s weight limit (room-of x, reach-of x, why) in
+        let left : Clocked = record { meaning = y; clock = x .clock; last = x .last } in
+        let at : left ≡ opened-at x s weight limit = λ i. record { meaning = to i; clock = x .clock; last = x .last } in
+        step-accepted tags x left (Open s weight limit) (opened r) why (ap opened is) at
+        (subst (Sound tags) (sym at) (sound-opened tags x s weight limit ok (may .was-closed)))
+
+-- ---- enter
+
+-- a packet that may enter may be put
+length-put : (o : Option Session) (s n room reach : ℕ) (others : Option Refusal) → others ≡ check (ltb 0 room) Full None →
+    length-refusal (mapped (λ t. t .limit) o) room reach n ≡ None → check (isSome o) NotOpen others ≡ None
+length-put None s n room reach others is none = let z : _≡_ {A = ℕ} 0 1 = cc in let no : ⊥ = omega arith in absurd no
+length-put (Some t) s n room reach others is none =
+    let fits = passes (within n (t .limit)) BadLength (check (ltb 0 room) Full _) none in
+    let placed = passes (ltb 0 room) Full _ (fits .1) in
+    is ∙ cond-true (ltb 0 room) None (Some Full) (placed .0)
+
+enter-put : (x : Clocked) (s n ticket : ℕ) → refusal-of x (Enter s n ticket) ≡ None → why-put (x .meaning) s ≡ None
+enter-put x s n ticket none =
+    let number = passes (ltb s 64) NoSuchSession _ none in
+    cond-true (ltb s 64) (check (isSome (x .meaning .session s)) NotOpen (check (ltb 0 (room-beside (all-waiting (x .meaning)))) Full None)) (Some NoSuchSession) (number .0) ∙
+    length-put (x .meaning .session s) s n (room-of x s) (reach-of x s) _ refl (number .1)
+
+-- a packet that is admitted has the mark of the rule, and may be put
+pub record Admitted (x : Clocked) (s n ticket mark : ℕ) : Type 0 where
+  pub allowed : refusal-of x (Enter s n ticket) ≡ None
+  pub mark-is : mark ≡ mark-for x s n
+  pub putting : why-put (x .meaning) s ≡ None
+
+pub admitted : (x : Clocked) (s n ticket mark : ℕ) → Ok mark ≡ enter-answer x s n → Admitted x s n ticket mark
+admitted x s n ticket mark is =
+    let both = verdict-ok (refusal-of x (Enter s n ticket)) (mark-for x s n) mark is in
+    record { allowed = both .0; mark-is = both .1; putting = enter-put x s n ticket (both .0) }
+
+pub step-entered : (tags : Tags) (x y : Clocked) (s n ticket mark : ℕ) → Ok mark ≡ enter-answer x s n →
+    y ≡ entered-at x s (record { length = n; ticket = ticket; mark = mark }) → tags ≡ first-marks (y .meaning) →
+    Stepped tags x (Enter s n ticket) (entered (Ok mark)) y
+step-entered tags x y s n ticket mark is to ready =
+    let may = admitted x s n ticket mark is in
+    let p : Packet = record { length = n; ticket = ticket; mark = mark } in
+    let o = put-open (x .meaning) s (may .putting) in
+    step-accepted tags x y (Enter s n ticket) (Entered mark) (may .allowed) (ap Entered (may .mark-is))
+    (to ∙ (λ i. entered-at x s (record { length = n; ticket = ticket; mark = may .mark-is i })))
+    (subst (Sound tags) (sym to) (sound-entered tags x s p (o .session) (o .number) (o .is-open) (ready ∙ ap (λ z. first-marks (z .meaning)) to)))
+
+-- ---- start
+
+-- nothing is in service where a packet may start
+pub start-free : (m : Meaning) → why-start m ≡ None → m .in-service ≡ None
+start-free m none = go (m .in-service) (passes (not (isSome (m .in-service))) ServerBusy _ none .0)
+  where
+    go : (o : Option Service) → not (isSome o) ≡ true → o ≡ None
+    go None e = refl
+    go (Some service) e = let z : _≡_ {A = ℕ} 0 1 = cc in let no : ⊥ = omega arith in absurd no
+
+-- the ready line has an entry then
+pub start-some : (tags : Tags) (x : Clocked) → why-start (x .meaning) ≡ None → tags ≡ first-marks (x .meaning) → None ≡ least-of tags → ⊥
+start-some tags x none ready is =
+    let n = next-to-start x none in
+    let empty : next (x .meaning) ≡ None = ap (first-with (x .meaning)) (sym (is ∙ ap least-of ready)) in
+    let some = n .is in
+    let z : _≡_ {A = ℕ} 0 1 = cc in omega arith
+
+-- its least entry is due
+pub start-due : (tags rest : Tags) (m : Meaning) (mark s : ℕ) → why-start m ≡ None → tags ≡ first-marks m → Some (mark, s) ≡ least-of tags →
+    rest ≡ without tags (Some (mark, s)) → Due rest m mark s
+start-due tags rest m mark s none ready is gone =
+    let least = is ∙ ap least-of ready in
+    let first = least-first m (mark, s) least in
+    record {
+      none-served = start-free m none;
+      session = first .session;
+      first = sym (first-marks-at m s (first .session)) ∙ least-tag (first-marks m) (mark, s) least;
+      others = gone ∙ ap (λ xs. set xs s None) ready;
+    }
+
+pub step-started : (tags rest left : Tags) (x y : Clocked) (mark s : ℕ) (r : Result Service Refusal) → why-start (x .meaning) ≡ None → tags ≡ first-marks (x .meaning) →
+    Some (mark, s) ≡ least-of tags → Due rest (x .meaning) mark s → r ≡ taken s (first-in (waiting-in (x .meaning) s)) →
+    y ≡ started-at x (with-first s (waiting-in (x .meaning) s)) → left ≡ first-marks (y .meaning) → Stepped left x Start (started r) y
+step-started tags rest left x y mark s r none ready is due answer to now-ready =
+    let m = x .meaning in
+    let chosen : next m ≡ with-first s (waiting-in m s) = ap (first-with m) (sym (is ∙ ap least-of ready)) in
+    let at : y ≡ started-at x (next m) = to ∙ ap (started-at x) (sym chosen) in
+    let n = next-to-start x none in
+    let found : y ≡ started-at x (Some (n .service)) = at ∙ ap (started-at x) (n .is) in
+    step-accepted left x y Start (started r) none (ap started answer ∙ same-answer (waiting-in m s) ∙ ap started-with (sym chosen)) at
+    (subst (Sound left) (sym found) (sound-started left x (n .service) (now-ready ∙ ap (λ z. first-marks (z .meaning)) found)))
+  where
+    same-answer : (ps : List Packet) → started (taken s (first-in ps)) ≡ started-with (with-first s ps)
+    same-answer [] = refl
+    same-answer (p ∷ ps) = refl
+
+-- ---- finish
+
+pub served-err : (o : Option Service) (reason : Refusal) → Err reason ≡ served o → finish-refusal (isSome o) ≡ Some reason
+served-err None reason e = cc
+served-err (Some service) reason e = let z : _≡_ {A = ℕ} 0 1 = cc in let no : ⊥ = omega arith in absurd no
+
+served-ok : (o : Option Service) (service : Service) → Ok service ≡ served o → o ≡ Some service
+served-ok None service e = let z : _≡_ {A = ℕ} 0 1 = cc in let no : ⊥ = omega arith in absurd no
+served-ok (Some other) service e = cc
+
+zeros : (m n : ℕ) → _≡_ {A = ℕ} (getD (replicate m 0) n 0) 0
+zeros zero n = refl
+zeros (suc m) zero = refl
+zeros (suc m) (suc n) = zeros m n
+
+pub step-finished : (tags : Tags) (x : Clocked) (y : Meaning) (lasts new-lasts : List ℕ) (clock : ℕ) (service : Service) → x .last ≡ last-in lasts →
+    Ok service ≡ finish-answer (x .meaning) → y ≡ after-served (x .meaning) (Ok service) → clock ≡ while-waiting y (x .clock) →
+    new-lasts ≡ cond (eqb (all-waiting y) 0) (replicate 64 0) lasts → Sound tags x →
+    Stepped tags x Finish (finished (Ok service)) (record { meaning = y; clock = clock; last = last-in new-lasts })
+step-finished tags x y lasts new-lasts clock service had is to clock-is lasts-are ok =
+    let m = x .meaning in
+    let held : m .in-service ≡ Some service = served-ok (m .in-service) service is in
+    let allowed : refusal-of x Finish ≡ None = ap (λ o. finish-refusal (isSome o)) held in
+    let waiting : all-waiting y ≡ all-waiting m = ap all-waiting to ∙ all-same m (after-finish m (service .session) (service .packet)) (finish-waiting m (service .session) (service .packet)) in
+    let b : eqb (all-waiting y) 0 ≡ eqb (all-waiting m) 0 = ap (λ n. eqb n 0) waiting in
+    let clock-path : clock ≡ while-waiting m (x .clock) = clock-is ∙ ap (λ t. cond t 0 (x .clock)) b in
+    let last-path : last-in new-lasts ≡ (λ s. while-waiting m (x .last s)) =
+    ap last-in lasts-are ∙ emptied (eqb (all-waiting y) 0) ∙ (λ i s. cond (b i) 0 (sym had i s))
+    in
+    let left : Clocked = record { meaning = y; clock = clock; last = last-in new-lasts } in
+    let at : left ≡ finished-at x (Some service) = λ i. record { meaning = to i; clock = clock-path i; last = last-path i } in
+    step-accepted tags x left Finish (finished (Ok service)) allowed (ap (λ o. finished-with o) (sym held)) (at ∙ ap (finished-at x) (sym held))
+    (subst (Sound tags) (sym at) (sound-finished tags x service ok))
+  where
+    emptied : (b : Bool) → last-in (cond b (replicate 64 0) lasts) ≡ (λ s. cond b 0 (last-in lasts s))
+    emptied true = λ i s. zeros 64 s i
+    emptied false = refl
+
+-- ---- a new line
+
+pub fresh-sound : (tags : Tags) (x : Clocked) → Fresh tags x → Sound tags x
+fresh-sound tags x f =
+    record {
+      ready = f .ready ∙ first-marks-from nothing-open no-entries refl (λ s low. getD-replicate 64 s None None low) ∙ ap first-marks (sym (f .new .meaning));
+      idle = λ i. record { clock = f .new .clock; last = f .new .last };
+    }
+
+-- ---- reach
+
+module _ (x : Clocked) (s : ℕ) (in-range : (t : Session) → x .meaning .session s ≡ Some t → In-range t) where
+  pub reach-is-asked : (terms : Terms) → Ok terms ≡ terms-answer (x .meaning) s → reach-answer-at (x .last s) (x .clock) (terms .weight) ≡ reach-answer (x .meaning) (reach-of x) s
+  reach-is-asked terms is =
+      let number = ok-passes (ltb s 64) terms (if-open (x .meaning .session s) (λ t. record { weight = t .weight; limit = t .limit })) NoSuchSession is in
+      go (x .meaning .session s) refl terms (number .1) ∙
+      sym (cond-true (ltb s 64) (if-open (x .meaning .session s) (λ t. reach-of x s)) (Err NoSuchSession) (number .0))
+    where
+      go : (o : Option Session) → x .meaning .session s ≡ o → (terms : Terms) → Ok terms ≡ if-open o (λ t. record { weight = t .weight; limit = t .limit }) →
+          reach-answer-at (x .last s) (x .clock) (terms .weight) ≡ if-open o (λ t. reach-of x s)
+      go None is terms e = let z : _≡_ {A = ℕ} 0 1 = cc in let no : ⊥ = omega arith in absurd no
+      go (Some t) is terms e =
+          let same : terms .weight ≡ t .weight = ap (λ (v : Terms). v .weight) (let same-terms : terms ≡ record { weight = t .weight; limit = t .limit } = cc in same-terms) in
+          ap (reach-answer-at (x .last s) (x .clock)) same ∙
+          cond-true (within (t .weight) 16) (Ok (reach-from (max (x .last s) (x .clock)) (t .weight))) (Err BadWeight) (in-range t is .weight) ∙
+          ap (λ (o : Option Session). Ok (reach-from (max (x .last s) (x .clock)) (weight-in (terms-in o)))) (sym is)
