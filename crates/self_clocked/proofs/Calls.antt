@@ -25,13 +25,15 @@ use Rattle.calls.specs.declared.refusal.Refusal.{Refusal}
 use Rattle.calls.specs.declared.refusal.Refusal.the-variants.{NoSuchSession, NotOpen, BadLength, Full, OutOfReach, BadWeight, NothingWaiting, ServerBusy}
 use Rattle.ready.specs.Tags.{Tags, tag-of, no-entries, least-of, without}
 use Rattle.ready.proofs.Leasts.{least-tag}
-use Rattle.sharing.specs.Histories.{weight-in}
+use Rattle.waiting.specs.Queues.{first-of}
 use Rattle.sharing.specs.Rules.{check, room-beside, reach-from, length-refusal, finish-refusal}
 use Rattle.sharing.specs.Meanings.{Session, Meaning, nothing-open, waiting-in, all-waiting, after-open, after-first, after-finish, if-open, terms-answer, reach-answer}
 use Rattle.sharing.specs.Clocked.{Clocked, while-waiting}
 use Rattle.sharing.proofs.Pending.{terms-in, finish-waiting, open-allowed}
 use Rattle.discipline.specs.Answers.{opened, entered, started, finished}
-use Rattle.sessions.specs.Verdicts.{verdict, decided, settled, why-open, why-put, why-start, first-in, taken, served, finish-answer, after-served}
+use Rattle.sessions.specs.Verdicts.{verdict, settled, why-open, why-put, why-start, taken, served, finish-answer, after-served}
+use Rattle.sessions.proofs.Keeping.{passed}
+use Rattle.sessions.proofs.Using.{startable}
 use Rattle.self_clocked.specs.Exact.{
   room-of,
   reach-of,
@@ -44,6 +46,7 @@ use Rattle.self_clocked.specs.Exact.{
   enter-answer,
   accepted-answer,
   accepted-after,
+  decided,
   started-with,
   finished-with,
   opened-at,
@@ -55,12 +58,10 @@ use Rattle.self_clocked.specs.Exact.{
   Sound,
   Fresh,
 }
-use Rattle.self_clocked.specs.Marks.{reach-answer-at}
 use Rattle.self_clocked.specs.States.{last-in}
-use Rattle.self_clocked.proofs.Admits.{ok-passes, In-range}
 use Rattle.self_clocked.proofs.Firsts.{first-marks-at, first-marks-from, least-first}
 use Rattle.self_clocked.proofs.Keeps.{all-same, sound-opened, sound-entered, sound-started, sound-finished}
-use Rattle.self_clocked.proofs.Steps.{passes, next-to-start}
+use Rattle.self_clocked.proofs.Steps.{next-to-start}
 use Rattle.self_clocked.proofs.Entries.{put-open}
 
 -- the exact step of a call, and a sound line after it
@@ -123,13 +124,13 @@ length-put : (o : Option Session) (s n room reach : ℕ) (others : Option Refusa
     length-refusal (mapped (λ t. t .limit) o) room reach n ≡ None → check (isSome o) NotOpen others ≡ None
 length-put None s n room reach others is none = let z : _≡_ {A = ℕ} 0 1 = cc in let no : ⊥ = omega arith in absurd no
 length-put (Some t) s n room reach others is none =
-    let fits = passes (within n (t .limit)) BadLength (check (ltb 0 room) Full _) none in
-    let placed = passes (ltb 0 room) Full _ (fits .1) in
+    let fits = passed (within n (t .limit)) BadLength (check (ltb 0 room) Full _) none in
+    let placed = passed (ltb 0 room) Full _ (fits .1) in
     is ∙ cond-true (ltb 0 room) None (Some Full) (placed .0)
 
 enter-put : (x : Clocked) (s n ticket : ℕ) → refusal-of x (Enter s n ticket) ≡ None → why-put (x .meaning) s ≡ None
 enter-put x s n ticket none =
-    let number = passes (ltb s 64) NoSuchSession _ none in
+    let number = passed (ltb s 64) NoSuchSession _ none in
     cond-true (ltb s 64) (check (isSome (x .meaning .session s)) NotOpen (check (ltb 0 (room-beside (all-waiting (x .meaning)))) Full None)) (Some NoSuchSession) (number .0) ∙
     length-put (x .meaning .session s) s n (room-of x s) (reach-of x s) _ refl (number .1)
 
@@ -157,14 +158,6 @@ step-entered tags x y s n ticket mark is to ready =
 
 -- ---- start
 
--- nothing is in service where a packet may start
-pub start-free : (m : Meaning) → why-start m ≡ None → m .in-service ≡ None
-start-free m none = go (m .in-service) (passes (not (isSome (m .in-service))) ServerBusy _ none .0)
-  where
-    go : (o : Option Service) → not (isSome o) ≡ true → o ≡ None
-    go None e = refl
-    go (Some service) e = let z : _≡_ {A = ℕ} 0 1 = cc in let no : ⊥ = omega arith in absurd no
-
 -- the ready line has an entry then
 pub start-some : (tags : Tags) (x : Clocked) → why-start (x .meaning) ≡ None → tags ≡ first-marks (x .meaning) → None ≡ least-of tags → ⊥
 start-some tags x none ready is =
@@ -180,14 +173,14 @@ start-due tags rest m mark s none ready is gone =
     let least = is ∙ ap least-of ready in
     let first = least-first m (mark, s) least in
     record {
-      none-served = start-free m none;
+      none-served = startable m none .0;
       session = first .session;
       first = sym (first-marks-at m s (first .session)) ∙ least-tag (first-marks m) (mark, s) least;
       others = gone ∙ ap (λ xs. set xs s None) ready;
     }
 
 pub step-started : (tags rest left : Tags) (x y : Clocked) (mark s : ℕ) (r : Result Service Refusal) → why-start (x .meaning) ≡ None → tags ≡ first-marks (x .meaning) →
-    Some (mark, s) ≡ least-of tags → Due rest (x .meaning) mark s → r ≡ taken s (first-in (waiting-in (x .meaning) s)) →
+    Some (mark, s) ≡ least-of tags → Due rest (x .meaning) mark s → r ≡ taken s (first-of (waiting-in (x .meaning) s)) →
     y ≡ started-at x (with-first s (waiting-in (x .meaning) s)) → left ≡ first-marks (y .meaning) → Stepped left x Start (started r) y
 step-started tags rest left x y mark s r none ready is due answer to now-ready =
     let m = x .meaning in
@@ -198,7 +191,7 @@ step-started tags rest left x y mark s r none ready is due answer to now-ready =
     step-accepted left x y Start (started r) none (ap started answer ∙ same-answer (waiting-in m s) ∙ ap started-with (sym chosen)) at
     (subst (Sound left) (sym found) (sound-started left x (n .service) (now-ready ∙ ap (λ z. first-marks (z .meaning)) found)))
   where
-    same-answer : (ps : List Packet) → started (taken s (first-in ps)) ≡ started-with (with-first s ps)
+    same-answer : (ps : List Packet) → started (taken s (first-of ps)) ≡ started-with (with-first s ps)
     same-answer [] = refl
     same-answer (p ∷ ps) = refl
 
@@ -248,21 +241,3 @@ fresh-sound tags x f =
       ready = f .ready ∙ first-marks-from nothing-open no-entries refl (λ s low. getD-replicate 64 s None None low) ∙ ap first-marks (sym (f .new .meaning));
       idle = λ i. record { clock = f .new .clock; last = f .new .last };
     }
-
--- ---- reach
-
-module _ (x : Clocked) (s : ℕ) (in-range : (t : Session) → x .meaning .session s ≡ Some t → In-range t) where
-  pub reach-is-asked : (terms : Terms) → Ok terms ≡ terms-answer (x .meaning) s → reach-answer-at (x .last s) (x .clock) (terms .weight) ≡ reach-answer (x .meaning) (reach-of x) s
-  reach-is-asked terms is =
-      let number = ok-passes (ltb s 64) terms (if-open (x .meaning .session s) (λ t. record { weight = t .weight; limit = t .limit })) NoSuchSession is in
-      go (x .meaning .session s) refl terms (number .1) ∙
-      sym (cond-true (ltb s 64) (if-open (x .meaning .session s) (λ t. reach-of x s)) (Err NoSuchSession) (number .0))
-    where
-      go : (o : Option Session) → x .meaning .session s ≡ o → (terms : Terms) → Ok terms ≡ if-open o (λ t. record { weight = t .weight; limit = t .limit }) →
-          reach-answer-at (x .last s) (x .clock) (terms .weight) ≡ if-open o (λ t. reach-of x s)
-      go None is terms e = let z : _≡_ {A = ℕ} 0 1 = cc in let no : ⊥ = omega arith in absurd no
-      go (Some t) is terms e =
-          let same : terms .weight ≡ t .weight = ap (λ (v : Terms). v .weight) (let same-terms : terms ≡ record { weight = t .weight; limit = t .limit } = cc in same-terms) in
-          ap (reach-answer-at (x .last s) (x .clock)) same ∙
-          cond-true (within (t .weight) 16) (Ok (reach-from (max (x .last s) (x .clock)) (t .weight))) (Err BadWeight) (in-range t is .weight) ∙
-          ap (λ (o : Option Session). Ok (reach-from (max (x .last s) (x .clock)) (weight-in (terms-in o)))) (sym is)

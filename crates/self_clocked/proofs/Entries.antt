@@ -16,15 +16,16 @@ use Rattle.std.proofs.shelf.Tests.{cases-eq, eq-eqb, ne-eqb, ltb-true}
 use Rattle.calls.specs.declared.call.Packet.{Packet}
 use Rattle.calls.specs.declared.refusal.Refusal.{Refusal}
 use Rattle.calls.specs.declared.refusal.Refusal.the-variants.{NoSuchSession, NotOpen, Full}
+use Rattle.waiting.specs.Queues.{first-of}
 use Rattle.ready.specs.Tags.{Tags, add-answer, added}
 use Rattle.sharing.specs.Rules.{room-beside, check}
 use Rattle.sharing.specs.Meanings.{Session, Meaning, waiting-in, all-waiting, after-enter}
 use Rattle.sharing.specs.Clocked.{Clocked, with-mark}
-use Rattle.sessions.specs.Verdicts.{settled, why-put, first-in}
+use Rattle.sessions.specs.Verdicts.{settled, why-put}
+use Rattle.sessions.proofs.Keeping.{passed}
 use Rattle.self_clocked.specs.Exact.{first-marks, entered-at}
 use Rattle.self_clocked.specs.States.{last-in}
 use Rattle.self_clocked.proofs.Keeps.{first-added, first-ready, later-ready}
-use Rattle.self_clocked.proofs.Steps.{passes}
 
 -- a packet that may wait has an open session
 pub record Open-session (m : Meaning) (s : ℕ) : Type 0 where
@@ -34,8 +35,8 @@ pub record Open-session (m : Meaning) (s : ℕ) : Type 0 where
 
 pub put-open : (m : Meaning) (s : ℕ) → why-put m s ≡ None → Open-session m s
 put-open m s none =
-    let number = passes (ltb s 64) NoSuchSession (check (isSome (m .session s)) NotOpen (check (ltb 0 (room-beside (all-waiting m))) Full None)) none in
-    let opened = passes (isSome (m .session s)) NotOpen (check (ltb 0 (room-beside (all-waiting m))) Full None) (number .1) in
+    let number = passed (ltb s 64) NoSuchSession (check (isSome (m .session s)) NotOpen (check (ltb 0 (room-beside (all-waiting m))) Full None)) none in
+    let opened = passed (isSome (m .session s)) NotOpen (check (ltb 0 (room-beside (all-waiting m))) Full None) (number .1) in
     let found = some-of (m .session s) (opened .0) in
     record { number = ltb-true s 64 (number .0); session = found .0; is-open = found .1 }
   where
@@ -65,26 +66,26 @@ module _ (m y : Meaning) (s : ℕ) (p : Packet) (put : y ≡ settled (why-put m 
       λ i. record { meaning = put-is none i; clock = clock; last = last-set lasts s (p .mark) inside i }
 
   -- a packet of the session waited
-  pub entered-later : (tags : Tags) → isSome (first-in (waiting-in m s)) ≡ true → tags ≡ first-marks m → why-put m s ≡ None → tags ≡ first-marks y
+  pub entered-later : (tags : Tags) → isSome (first-of (waiting-in m s)) ≡ true → tags ≡ first-marks m → why-put m s ≡ None → tags ≡ first-marks y
   entered-later tags some ready none =
       let open-now = put-open m s none in
       later (waiting-in m s) refl some open-now ∙ ap first-marks (sym (put-is none))
     where
-      later : (ps : List Packet) → waiting-in m s ≡ ps → isSome (first-in ps) ≡ true → Open-session m s → tags ≡ first-marks (after-enter m s p)
+      later : (ps : List Packet) → waiting-in m s ≡ ps → isSome (first-of ps) ≡ true → Open-session m s → tags ≡ first-marks (after-enter m s p)
       later [] is e o = let z : _≡_ {A = ℕ} 0 1 = cc in let no : ⊥ = omega arith in absurd no
       later (q ∷ qs) is e o = later-ready tags m s p (o .session) (o .number) (o .is-open) ready q qs is
 
-  no-first : (ps : List Packet) → isSome (first-in ps) ≡ false → ps ≡ []
+  no-first : (ps : List Packet) → isSome (first-of ps) ≡ false → ps ≡ []
   no-first [] e = refl
   no-first (q ∷ qs) e = let z : _≡_ {A = ℕ} 0 1 = cc in let no : ⊥ = omega arith in absurd no
 
   -- none did
-  pub entered-answer : (tags : Tags) → isSome (first-in (waiting-in m s)) ≡ false → tags ≡ first-marks m → why-put m s ≡ None → add-answer tags s ≡ Ok tt
+  pub entered-answer : (tags : Tags) → isSome (first-of (waiting-in m s)) ≡ false → tags ≡ first-marks m → why-put m s ≡ None → add-answer tags s ≡ Ok tt
   entered-answer tags first ready none =
       let o = put-open m s none in
       first-added tags m s p (o .session) (o .number) (o .is-open) ready (no-first (waiting-in m s) first)
 
-  pub entered-first : (tags : Tags) → isSome (first-in (waiting-in m s)) ≡ false → tags ≡ first-marks m → why-put m s ≡ None →
+  pub entered-first : (tags : Tags) → isSome (first-of (waiting-in m s)) ≡ false → tags ≡ first-marks m → why-put m s ≡ None →
       added tags (p .mark) s ≡ first-marks y
   entered-first tags first ready none =
       let o = put-open m s none in

@@ -6,5 +6,4 @@ pub mod Idles
 pub mod Entries
 pub mod Starts
 pub mod Admits
-pub mod Ranges
 pub mod Calls

@@ -16,11 +16,12 @@ use Rattle.calls.specs.declared.call.Packet.{Packet}
 use Rattle.calls.specs.declared.call.Service.{Service}
 use Rattle.calls.specs.declared.refusal.Refusal.{Refusal}
 use Rattle.calls.specs.declared.refusal.Refusal.the-variants.{NoSuchSession, ServerBusy}
+use Rattle.waiting.specs.Queues.{first-of}
 use Rattle.ready.specs.Tags.{Tags}
 use Rattle.ready.proofs.Leasts.{none-some, same-some}
 use Rattle.sharing.specs.Meanings.{Meaning, waiting-in, after-first, after-start}
 use Rattle.sharing.specs.Clocked.{Clocked}
-use Rattle.sessions.specs.Verdicts.{first-in, taken, take-answer}
+use Rattle.sessions.specs.Verdicts.{taken, take-answer}
 use Rattle.self_clocked.specs.Exact.{first-mark, first-marks, with-first, started-at, renewed, renew-answer, Due}
 use Rattle.self_clocked.proofs.Keeps.{none-left, next-added, next-ready}
 
@@ -32,16 +33,16 @@ pub record Found (m : Meaning) (mark s : ℕ) (service : Service) : Type 0 where
   pub is-next : with-first s (waiting-in m s) ≡ Some service
 
 module _ (tags : Tags) (m : Meaning) (mark s : ℕ) (due : Due tags m mark s) where
-  pub due-answer : (r : Result Service Refusal) → r ≡ take-answer m s → r ≡ taken s (first-in (waiting-in m s))
+  pub due-answer : (r : Result Service Refusal) → r ≡ take-answer m s → r ≡ taken s (first-of (waiting-in m s))
   due-answer r took =
       took ∙
-      ap (λ o. cond (not (isSome o)) (cond (ltb s 64) (taken s (first-in (waiting-in m s))) (Err NoSuchSession)) (Err ServerBusy)) (due .none-served) ∙
-      cond-true (ltb s 64) (taken s (first-in (waiting-in m s))) (Err NoSuchSession) (lt-ltb s 64 (due .session))
+      ap (λ o. cond (not (isSome o)) (cond (ltb s 64) (taken s (first-of (waiting-in m s))) (Err NoSuchSession)) (Err ServerBusy)) (due .none-served) ∙
+      cond-true (ltb s 64) (taken s (first-of (waiting-in m s))) (Err NoSuchSession) (lt-ltb s 64 (due .session))
 
   pub due-found : (service : Service) → Ok service ≡ take-answer m s → Found m mark s service
   due-found service took = go (waiting-in m s) refl (due .first) (due-answer (Ok service) took)
     where
-      go : (ps : List Packet) → waiting-in m s ≡ ps → first-mark ps ≡ Some mark → Ok service ≡ taken s (first-in ps) → Found m mark s service
+      go : (ps : List Packet) → waiting-in m s ≡ ps → first-mark ps ≡ Some mark → Ok service ≡ taken s (first-of ps) → Found m mark s service
       go [] is e answer = absurd (none-some mark e)
       go (p ∷ ps) is e answer =
           let here : service ≡ record { session = s; packet = p } = cc in
@@ -68,11 +69,11 @@ module _ (tags : Tags) (m : Meaning) (mark s : ℕ) (due : Due tags m mark s) wh
     started-answer None = refl
     started-answer (Some q) = next-added (first-marks m) tags m s (service .packet) (due .session) refl (due .others)
 
-    pub started-ready : (next : Option Packet) (left : Tags) → next ≡ first-in (waiting-in y s) → left ≡ renewed tags next s → left ≡ first-marks y
+    pub started-ready : (next : Option Packet) (left : Tags) → next ≡ first-of (waiting-in y s) → left ≡ renewed tags next s → left ≡ first-marks y
     started-ready next left is-next is =
-        is ∙ ap (λ o. renewed tags o s) (is-next ∙ ap (λ (z : Meaning). first-in (waiting-in z s)) after-is) ∙
+        is ∙ ap (λ o. renewed tags o s) (is-next ∙ ap (λ (z : Meaning). first-of (waiting-in z s)) after-is) ∙
         go (waiting-in (after-start m s (service .packet)) s) refl ∙ ap first-marks (sym after-is)
       where
-        go : (ps : List Packet) → waiting-in (after-start m s (service .packet)) s ≡ ps → renewed tags (first-in ps) s ≡ first-marks (after-start m s (service .packet))
+        go : (ps : List Packet) → waiting-in (after-start m s (service .packet)) s ≡ ps → renewed tags (first-of ps) s ≡ first-marks (after-start m s (service .packet))
         go [] none = none-left (first-marks m) tags m s (service .packet) (due .session) refl (due .others) none
         go (q ∷ qs) some = next-ready (first-marks m) tags m s (service .packet) (due .session) refl (due .others) q qs some

@@ -31,7 +31,8 @@ use Rattle.sharing.specs.Meanings as step
 use Rattle.sharing.specs.Clocked.{Clocked, Marks, Clocked-step}
 use Rattle.sharing.specs.Clocked as marks
 use Rattle.sharing.proofs.Steps.{ruled-clocked}
-use Rattle.sessions.specs.Verdicts.{decided, settled}
+use Rattle.sessions.specs.Verdicts.{settled}
+use Rattle.sessions.proofs.Using.{startable}
 use Rattle.self_clocked.specs.Exact.{
   room-of,
   reach-of,
@@ -45,6 +46,7 @@ use Rattle.self_clocked.specs.Exact.{
   started-at,
   finished-at,
   accepted-after,
+  decided,
   answer-to,
   after,
   Exact,
@@ -99,15 +101,8 @@ next-of-some m some = go (least-of (first-marks m)) refl
               omega (arith, first .mark);
         }
 
-pub passes : (test : Bool) (reason : Refusal) (others : Option Refusal) → check test reason others ≡ None → (test ≡ true) × (others ≡ None)
-passes true reason others e = (refl, e)
-passes false reason others e = let z : _≡_ {A = ℕ} 0 1 = cc in let no : ⊥ = omega arith in absurd no
-
 pub next-to-start : (x : Clocked) → refusal-of x Start ≡ None → Next (x .meaning)
-next-to-start x none =
-    let free = passes (not (isSome (x .meaning .in-service))) ServerBusy (check (ltb 0 (all-waiting (x .meaning))) NothingWaiting None) none in
-    let some = passes (ltb 0 (all-waiting (x .meaning))) NothingWaiting None (free .1) in
-    next-of-some (x .meaning) (ltb-true 0 (all-waiting (x .meaning)) (some .0))
+next-to-start x none = next-of-some (x .meaning) (startable (x .meaning) none .1)
 
 pub in-service-to-finish : (x : Clocked) → refusal-of x Finish ≡ None → (service : Service) × (x .meaning .in-service ≡ Some service)
 in-service-to-finish x none = go (x .meaning .in-service) refl none
@@ -146,13 +141,13 @@ exact-general x y call a e =
 
 -- ---- the marks
 
-module _ (x : Clocked) (none-above : (s : ℕ) → 64 ≤ s → x .meaning .session s ≡ None) where
+module _ (x : Clocked) (open-below : (s : ℕ) (t : Session) → x .meaning .session s ≡ Some t → s < 64) where
   some-below : (s : ℕ) (q : Packet) (qs : List Packet) → waiting-in (x .meaning) s ≡ q ∷ qs → s < 64
-  some-below s q qs has = go (cases-lt s 64)
+  some-below s q qs = go (x .meaning .session s) refl
     where
-      go : (s < 64) ⊎ (64 ≤ s) → s < 64
-      go (inl low) = low
-      go (inr high) = let none : waiting-in (x .meaning) s ≡ [] = ap waiting-of (none-above s high) in let z : _≡_ {A = ℕ} 0 1 = cc in let no : ⊥ = omega arith in absurd no
+      go : (o : Option Session) → x .meaning .session s ≡ o → waiting-of o ≡ q ∷ qs → s < 64
+      go None is has = let z : _≡_ {A = ℕ} 0 1 = cc in let no : ⊥ = omega arith in absurd no
+      go (Some t) is has = open-below s t is
 
   accepted-marks : (call : Call) → refusal-of x call ≡ None → Marks x (accepted-after x call) call (accepted-answer x call)
   accepted-marks (Open s weight limit) none = marks.opens (record { clock = refl; last = refl })

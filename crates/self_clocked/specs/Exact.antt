@@ -22,7 +22,7 @@ use Rattle.sharing.specs.Histories.{weight-in}
 use Rattle.sharing.specs.Rules.{mark-after, reach-from, room-beside}
 use Rattle.sharing.specs.Meanings.{Meaning, terms-at, waiting-in, all-waiting, refusal, after-open, after-enter, after-start, after-finish}
 use Rattle.sharing.specs.Clocked.{Clocked, New, with-mark, while-waiting}
-use Rattle.sessions.specs.Verdicts.{verdict, decided, settled}
+use Rattle.sessions.specs.Verdicts.{verdict, settled}
 
 -- ---- why a call is refused
 
@@ -120,7 +120,12 @@ accepted-after x Finish = finished-at x (x .meaning .in-service)
 
 -- ---- every call
 
--- a refused call is answered with the reason, and changes nothing
+-- a refused call is answered with the reason
+abbrev pub decided : Option Refusal → Answer → Answer
+decided None answer = answer
+decided (Some reason) answer = Refused reason
+
+-- and changes nothing
 abbrev pub answer-to : Clocked → Call → Answer
 answer-to x call = decided (refusal-of x call) (accepted-answer x call)
 

@@ -5,11 +5,12 @@ ghost use lib.ListN.{replicate};
 ghost use mathlib.Core.Bool.{cond};
 ghost use Rattle.std.specs.declared.option.Option.the-variants.{None};
 ghost use Rattle.std.specs.declared.result.Result.the-variants.{Ok};
+ghost use Rattle.waiting.specs.Queues.{first-of};
 ghost use Rattle.sharing.specs.Rules.{room-beside};
 ghost use Rattle.sharing.specs.Meanings.{all-waiting, waiting-in};
 ghost use Rattle.sharing.specs.Clocked.{while-waiting};
 ghost use Rattle.sessions.specs.Meanings.{meaning-of};
-ghost use Rattle.sessions.specs.Verdicts.{why-put, taken, first-in};
+ghost use Rattle.sessions.specs.Verdicts.{why-put, taken};
 ghost use Rattle.self_clocked.specs.Exact.{enter-answer, entered-at, started-at, with-first, renewed, renew-answer, first-marks, Due};
 ghost use Rattle.self_clocked.specs.Marks.{room-answer-at};
 ghost use Rattle.self_clocked.specs.States.{state};
@@ -78,7 +79,7 @@ impl<R: ReadyLine + Drop> SelfClocked<R> {
 
     // The first waiting packet of the session goes into service, the clock goes to its mark, and the session is ready with its next packet.
     pub(crate) fn serve(&mut self, mark: u64, session: u32) -> Result<Service, Refusal>
-        ensures answer { λ r. ⌜ (Due (R·ReadyLine .tags (now (self .entry) .ready)) (meaning-of (now (self .entry) .sessions)) mark session → r ≡ taken session (first-in (waiting-in (meaning-of (now (self .entry) .sessions)) session))) ⌝ }
+        ensures answer { λ r. ⌜ (Due (R·ReadyLine .tags (now (self .entry) .ready)) (meaning-of (now (self .entry) .sessions)) mark session → r ≡ taken session (first-of (waiting-in (meaning-of (now (self .entry) .sessions)) session))) ⌝ }
         ensures after { λ r. ⌜ (Due (R·ReadyLine .tags (now (self .entry) .ready)) (meaning-of (now (self .entry) .sessions)) mark session → state (now (self .exit)) ≡ started-at (state (now (self .entry))) (with-first session (waiting-in (meaning-of (now (self .entry) .sessions)) session))) ⌝ }
         ensures ready { λ _. ⌜ (Due (R·ReadyLine .tags (now (self .entry) .ready)) (meaning-of (now (self .entry) .sessions)) mark session → R·ReadyLine .tags (now (self .exit) .ready) ≡ first-marks (meaning-of (now (self .exit) .sessions))) ⌝ }
     {
