@@ -210,6 +210,9 @@ zeros zero n = refl
 zeros (suc m) zero = refl
 zeros (suc m) (suc n) = zeros m n
 
+pub zeros-last : last-in (replicate 64 0) ≡ (λ s. 0)
+zeros-last = λ i s. zeros 64 s i
+
 pub step-finished : (tags : Tags) (x : Clocked) (y : Meaning) (lasts new-lasts : List ℕ) (clock : ℕ) (service : Service) → x .last ≡ last-in lasts →
     Ok service ≡ finish-answer (x .meaning) → y ≡ after-served (x .meaning) (Ok service) → clock ≡ while-waiting y (x .clock) →
     new-lasts ≡ cond (eqb (all-waiting y) 0) (replicate 64 0) lasts → Sound tags x →
@@ -230,7 +233,7 @@ step-finished tags x y lasts new-lasts clock service had is to clock-is lasts-ar
     (subst (Sound tags) (sym at) (sound-finished tags x service ok))
   where
     emptied : (b : Bool) → last-in (cond b (replicate 64 0) lasts) ≡ (λ s. cond b 0 (last-in lasts s))
-    emptied true = λ i s. zeros 64 s i
+    emptied true = zeros-last
     emptied false = refl
 
 -- ---- a new line

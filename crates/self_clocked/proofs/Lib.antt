@@ -7,3 +7,4 @@ pub mod Entries
 pub mod Starts
 pub mod Admits
 pub mod Calls
+pub mod Wholes

@@ -1,3 +1,4 @@
 pub mod Marks
 pub mod Exact
 pub mod States
+pub mod Whole

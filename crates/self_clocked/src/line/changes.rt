@@ -11,7 +11,7 @@ ghost use Rattle.sharing.specs.Meanings.{all-waiting, waiting-in};
 ghost use Rattle.sharing.specs.Clocked.{while-waiting};
 ghost use Rattle.sessions.specs.Meanings.{meaning-of};
 ghost use Rattle.sessions.specs.Verdicts.{why-put, taken};
-ghost use Rattle.self_clocked.specs.Exact.{enter-answer, entered-at, started-at, with-first, renewed, renew-answer, first-marks, Due};
+ghost use Rattle.self_clocked.specs.Exact.{enter-answer, entered-at, started-at, with-first, renewed, renew-answer, first-marks, Due, Fresh};
 ghost use Rattle.self_clocked.specs.Marks.{room-answer-at};
 ghost use Rattle.self_clocked.specs.States.{state};
 use crate::line::SelfClocked;
@@ -20,6 +20,7 @@ use calls::call::Packet;
 use calls::call::Service;
 use calls::refusal::Refusal;
 use ready::line::ReadyLine;
+use sessions::state::Sessions;
 
 // How many packets may wait, of all sessions together.
 const PLACES: u32 = 256;
@@ -36,6 +37,19 @@ fn renew<R: ReadyLine>(ready: &mut R, next: Option<Packet>, session: u32) -> Res
 }
 
 impl<R: ReadyLine + Drop> SelfClocked<R> {
+    // Every session closed, nothing waits, and the clock and every last mark at 0. What the ready line had is cleared.
+    pub fn new(mut ready: R) -> SelfClocked<R>
+        ensures { λ r. ⌜ Fresh (R·ReadyLine .tags (r .ready)) (state r) ⌝ }
+    {
+        ready.clear();
+        SelfClocked {
+            sessions: Sessions::new(),
+            clock: 0,
+            lasts: [0; 64],
+            ready,
+        }
+    }
+
     // The places that are left beside the waiting packets.
     pub(crate) fn places_left(&self) -> u32
         ensures { λ r. ⌜ r ≡ room-beside (all-waiting (meaning-of (now (self .entry) .sessions))) ⌝ }
