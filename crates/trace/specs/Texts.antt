@@ -5,8 +5,6 @@ use Prim.Native.Nat.{ℕ, _+_}
 use lib.Chars.{codes}
 use lib.ListN.{length, take, drop}
 use Rattle.std.specs.Written.{decimal}
-use Rattle.std.specs.declared.result.Result.{Result}
-use Rattle.std.specs.declared.result.Result.the-variants.{Ok, Err}
 use Rattle.calls.specs.declared.call.Call.{Call}
 use Rattle.calls.specs.declared.call.Call.the-variants.{Open, Enter, Start, Finish}
 use Rattle.calls.specs.Refusals.{refusal-number}
@@ -17,7 +15,6 @@ use Rattle.trace.specs.declared.field.Key.{Key}
 use Rattle.trace.specs.declared.field.Key.the-variants.{Session, Weight, Limit, Length, Ticket}
 use Rattle.trace.specs.declared.field.Order.{Order}
 use Rattle.trace.specs.declared.field.Order.the-variants.{Open as OpenOrder, Enter as EnterOrder, Start as StartOrder, Finish as FinishOrder}
-use Rattle.trace.specs.declared.reading.Reading.{Reading}
 use Rattle.trace.specs.Faults.{fault-number, fault-field}
 use Rattle.trace.specs.Fields.{key-name, order-name}
 
@@ -53,19 +50,15 @@ call-fields Finish = order-text FinishOrder ∷ []
 abbrev pub call-text : Call → List ℕ
 call-text call = join 32 (call-fields call)
 
--- a line about a line of the trace: the call that was understood, or the fault by its number and the place of its field
+-- ---- the listing
+
 abbrev pub numbered-line : ℕ → List ℕ
 numbered-line at = codes "at=" ++ decimal at
 
-abbrev pub said-text : ℕ → Result Call LineFault → List ℕ
-said-text at (Ok call) = numbered-line at ++ codes " said=read " ++ call-text call ++ codes "\n"
-said-text at (Err fault) =
+-- a faulty line is told by the fault's number and the place of its field
+abbrev pub fault-text : ℕ → LineFault → List ℕ
+fault-text at fault =
     numbered-line at ++ (codes " said=fault number=" ++ decimal (fault-number fault)) ++ (codes " field=" ++ decimal (fault-field fault)) ++ codes "\n"
-
-abbrev pub reading-text : Reading → List ℕ
-reading-text reading = said-text (reading .at) (reading .line)
-
--- ---- the listing
 
 -- the session that a call names, 0 where it names none
 abbrev pub session-of : Call → ℕ

@@ -1,9 +1,6 @@
-// What was read of a line, with the line's number, and its text.
-ghost use mathlib.Core.Path.{_≡_};
-ghost use Prim.Native.Nat.{_+_, _≤_};
-ghost use lib.ListN.{length};
-ghost use Rattle.std.specs.declared.result.Result.the-variants.{Ok, Err};
-ghost use Rattle.trace.specs.Texts.{Wrote, call-text, said-text, reading-text};
+// What was read of a line, with the line's number; a call and a fault as text.
+ghost use Prim.Native.Nat.{_≤_};
+ghost use Rattle.trace.specs.Texts.{Wrote, call-text, fault-text};
 use crate::fault::LineFault;
 use crate::fault::LineFaultDebug;
 use crate::fault::LineFaultPartialEq;
@@ -20,11 +17,10 @@ pub struct Reading {
     pub line: Result<Call, LineFault>,
 }
 
-// Writes the call as a line of a trace, without octet 10, and answers the place behind it.
-fn put_call(out: &mut [u8], at: usize, call: Call) -> usize
-    requires { ⌜ at + 63 ≤ length (now out) ⌝ }
-    ensures wrote { λ r. ⌜ Wrote (now (out .entry)) at (call-text call) (now (out .exit)) r ⌝ }
-    ensures short { λ r. ⌜ r ≤ at + 63 ⌝ }
+// Writes the call as a line of a trace, without octet 10, to the front of the buffer, and answers its length.
+pub fn write_call(call: Call, out: &mut [u8; 96]) -> usize
+    ensures wrote { λ r. ⌜ Wrote (now (out .entry)) 0 (call-text call) (now (out .exit)) r ⌝ }
+    ensures short { λ r. ⌜ r ≤ 63 ⌝ }
 {
     match call {
         Call::Open {
@@ -32,7 +28,7 @@ fn put_call(out: &mut [u8], at: usize, call: Call) -> usize
             weight,
             limit,
         } => {
-            let at = put_field(out, at, b"do=open session=", session);
+            let at = put_field(out, 0, b"do=open session=", session);
             let at = put_field(out, at, b" weight=", weight);
             put_field(out, at, b" limit=", limit)
         }
@@ -41,46 +37,22 @@ fn put_call(out: &mut [u8], at: usize, call: Call) -> usize
             length,
             ticket,
         } => {
-            let at = put_field(out, at, b"do=enter session=", session);
+            let at = put_field(out, 0, b"do=enter session=", session);
             let at = put_field(out, at, b" length=", length);
             put_field(out, at, b" ticket=", ticket)
         }
-        Call::Start => put(out, at, b"do=start"),
-        Call::Finish => put(out, at, b"do=finish"),
+        Call::Start => put(out, 0, b"do=start"),
+        Call::Finish => put(out, 0, b"do=finish"),
     }
 }
 
-// Writes the fault's line.
-fn put_fault(out: &mut [u8], at: u32, fault: LineFault) -> usize
-    requires { ⌜ 96 ≤ length (now out) ⌝ }
-    ensures wrote { λ r. ⌜ Wrote (now (out .entry)) 0 (said-text at (Err fault)) (now (out .exit)) r ⌝ }
+// Writes the line about a faulty line to the front of the buffer, and answers its length.
+pub fn write_fault(at: u32, fault: LineFault, out: &mut [u8; 96]) -> usize
+    ensures wrote { λ r. ⌜ Wrote (now (out .entry)) 0 (fault-text at fault) (now (out .exit)) r ⌝ }
     ensures short { λ r. ⌜ r ≤ 96 ⌝ }
 {
     let place = put_field(out, 0, b"at=", at);
     let place = put_field(out, place, b" said=fault number=", fault.number());
     let place = put_field(out, place, b" field=", fault.field());
     put(out, place, b"\n")
-}
-
-// Writes the line of a call that was understood.
-fn put_read(out: &mut [u8], at: u32, call: Call) -> usize
-    requires { ⌜ 96 ≤ length (now out) ⌝ }
-    ensures wrote { λ r. ⌜ Wrote (now (out .entry)) 0 (said-text at (Ok call)) (now (out .exit)) r ⌝ }
-    ensures short { λ r. ⌜ r ≤ 96 ⌝ }
-{
-    let place = put_field(out, 0, b"at=", at);
-    let place = put(out, place, b" said=read ");
-    let place = put_call(out, place, call);
-    put(out, place, b"\n")
-}
-
-// Writes the line of a reading to the front of the buffer, which has room for every such line, and answers its length.
-pub fn write_reading(reading: Reading, out: &mut [u8; 96]) -> usize
-    ensures wrote { λ r. ⌜ Wrote (now (out .entry)) 0 (reading-text reading) (now (out .exit)) r ⌝ }
-    ensures short { λ r. ⌜ r ≤ 96 ⌝ }
-{
-    match reading.line {
-        Ok(call) => put_read(out, reading.at, call),
-        Err(fault) => put_fault(out, reading.at, fault),
-    }
 }

@@ -73,7 +73,12 @@ impl<R: ReadyLine + Drop> SelfClocked<R> {
     {
         let terms = self.sessions.check_length(session, length)?;
         self.check_room()?;
-        mark(self.lasts[session as usize], self.clock, length, terms.weight)
+        mark(
+            self.lasts[session as usize],
+            self.clock,
+            length,
+            terms.weight,
+        )
     }
 
     // The packet waits as the last of its session, and its mark is the session's last mark. A session of which nothing waited is ready now.

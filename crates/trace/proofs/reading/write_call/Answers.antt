@@ -6,7 +6,7 @@ use Rattle.std.specs.Written.{decimal}
 use Rattle.trace.specs.Texts.{call-text}
 use Rattle.trace.proofs.ReadBack.{open-text, enter-text}
 use Rattle.trace.proofs.Writing.{wrote-both, wrote-as}
-use Rattle.trace.proofs.reading.put_call.Needs as need
+use Rattle.trace.proofs.reading.write_call.Needs as need
 
 pub returns-in-Open : need.returns-in-Open
 returns-in-Open c =

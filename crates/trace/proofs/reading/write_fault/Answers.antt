@@ -5,7 +5,7 @@ use native.Mathlib.Omega.{arith}
 use Rattle.std.specs.Written.{decimal}
 use Rattle.trace.specs.Faults.{fault-number, fault-field}
 use Rattle.trace.proofs.Writing.{wrote-both, wrote-as}
-use Rattle.trace.proofs.reading.put_fault.Needs as need
+use Rattle.trace.proofs.reading.write_fault.Needs as need
 
 pub returns : need.returns
 returns c =
