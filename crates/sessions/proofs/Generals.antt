@@ -9,6 +9,7 @@ use Rattle.std.specs.declared.result.Result.{Result}
 use Rattle.std.specs.declared.result.Result.the-variants.{Ok, Err}
 use Rattle.calls.specs.declared.call.Packet.{Packet}
 use Rattle.calls.specs.declared.call.Service.{Service}
+use Rattle.calls.specs.declared.call.Call.{Call}
 use Rattle.calls.specs.declared.call.Call.the-variants.{Open, Enter, Start, Finish}
 use Rattle.calls.specs.declared.call.Answer.{Answer}
 use Rattle.calls.specs.declared.call.Answer.the-variants.{Opened, Entered, Started, Finished, Refused}
@@ -70,3 +71,7 @@ module _ (x y : Meaning) (a : Answer) where
         ((service : Service) → tell (Ok service) ≡ Finished (service .session) (service .packet)) →
         a ≡ tell (finish-answer x) → y ≡ after-served x (finish-answer x) → General x (why-finish x) y Finish a
     general-finish ok = finish-by ok (x .in-service) refl
+
+-- a refused call leaves the meaning
+pub refused-leaves : {x y : Meaning} {why : Option Refusal} {call : Call} {e : Refusal} → General x why y call (Refused e) → y ≡ x
+refused-leaves (refuses is to) = to

@@ -1,6 +1,6 @@
 pub mod Reading
 pub mod Keeping
 pub mod Changing
-pub mod Stepping
 pub mod Using
+pub mod Stepping
 pub mod Generals

@@ -8,20 +8,20 @@ use lib.Dec.{ltb}
 use lib.ListN.{length}
 use Rattle.std.specs.Options.{isSome}
 use Rattle.std.specs.declared.option.Option.{Option}
-use Rattle.std.specs.declared.option.Option.the-variants.{Some, None}
+use Rattle.std.specs.declared.option.Option.the-variants.{Some}
 use Rattle.std.specs.declared.result.Result.{Result}
 use Rattle.std.specs.declared.result.Result.the-variants.{Ok, Err}
-use Rattle.std.proofs.shelf.Tests.{ltb-true, cond-true, cond-false, lt-ltb, le-ltb}
+use Rattle.std.proofs.shelf.Tests.{cond-true, cond-false, lt-ltb, le-ltb}
 use Rattle.calls.specs.Strides.{charge}
 use Rattle.calls.specs.declared.call.Packet.{Packet}
 use Rattle.calls.specs.declared.call.Service.{Service}
 use Rattle.calls.specs.declared.call.Terms.{Terms}
 use Rattle.calls.specs.declared.refusal.Refusal.{Refusal}
-use Rattle.calls.specs.declared.refusal.Refusal.the-variants.{NoSuchSession, NotOpen, Full, ServerBusy}
+use Rattle.calls.specs.declared.refusal.Refusal.the-variants.{NoSuchSession, ServerBusy}
 use Rattle.waiting.specs.Queues.{queue, first-of, rest-of, put, first-answer}
 use Rattle.waiting.specs.Queues as queues
 use Rattle.waiting.proofs.Using.{first-some, of-session-ok, of-session-err}
-use Rattle.sharing.specs.Rules.{check, open-refusal, room-beside}
+use Rattle.sharing.specs.Rules.{open-refusal}
 use Rattle.sharing.specs.Meanings.{waiting-in, all-waiting, after-open, after-enter, after-start, after-finish}
 use Rattle.sessions.specs.declared.condition.Condition.{Condition}
 use Rattle.sessions.specs.declared.condition.Condition.the-variants.{Idle, Pausing, Carrying}
@@ -34,7 +34,8 @@ use Rattle.sessions.specs.Steps.{with-seat, with-condition}
 use Rattle.sessions.specs.Meanings.{meaning-in, meaning-of}
 use Rattle.sessions.specs.Verdicts.{verdict, settled, why-open, why-put, taken, take-answer, after-take, served, finish-answer}
 use Rattle.sessions.proofs.Reading.{open-is-some, waiting-is-queue, all-waiting-is-total}
-use Rattle.sessions.proofs.Keeping.{Ghosts, ghosts, passed, no-reason, the-reason, openable, must-pause, carrying, serves-below, enter-keeps, start-keeps, finish-keeps}
+use Rattle.sessions.proofs.Keeping.{Ghosts, ghosts, no-reason, the-reason, openable, must-pause, carrying, serves-below, enter-keeps, start-keeps, finish-keeps}
+use Rattle.sessions.proofs.Using.{Puttable, put-parts}
 use Rattle.sessions.proofs.Changing.{open-meaning, enter-meaning, start-meaning, finish-meaning}
 
 -- ---- refused or not
@@ -69,24 +70,18 @@ module _ (x : Sessions) (s : ℕ) (terms : Terms) where
 -- ---- put
 
 module _ (x : Sessions) (s : ℕ) (ok : Ok (tt {0}) ≡ verdict (why-put (meaning-of x) s) (tt {0})) where
-  low-and-open : (ltb s 64 ≡ true) × (check (isSome (meaning-of x .session s)) NotOpen (check (ltb 0 (room-beside (all-waiting (meaning-of x)))) Full None) ≡ None)
-  low-and-open = passed (ltb s 64) NoSuchSession (check (isSome (meaning-of x .session s)) NotOpen (check (ltb 0 (room-beside (all-waiting (meaning-of x)))) Full None)) (no-reason (why-put (meaning-of x) s) (tt {0}) (tt {0}) ok)
-
-  open-and-room : (isSome (meaning-of x .session s) ≡ true) × (check (ltb 0 (room-beside (all-waiting (meaning-of x)))) Full None ≡ None)
-  open-and-room = passed (isSome (meaning-of x .session s)) NotOpen (check (ltb 0 (room-beside (all-waiting (meaning-of x)))) Full None) (low-and-open .1)
+  can-put : Puttable (meaning-of x) s
+  can-put = put-parts (meaning-of x) s (no-reason (why-put (meaning-of x) s) (tt {0}) (tt {0}) ok)
 
   pub put-below : s < 64
-  put-below = ltb-true s 64 (low-and-open .0)
+  put-below = can-put .session
 
   pub put-open : is-open (seat-at (x .parts .seats) s) ≡ true
   unfolding meaning-of
-  put-open = sym (open-is-some (seat-at (x .parts .seats) s) (queue (x .parts .waiting) s)) ∙ open-and-room .0
+  put-open = sym (open-is-some (seat-at (x .parts .seats) s) (queue (x .parts .waiting) s)) ∙ can-put .is-open
 
   pub put-room : queues.all-waiting (x .parts .waiting) < 256
-  put-room =
-      let room : 0 < room-beside (all-waiting (meaning-of x)) =
-      ltb-true 0 (room-beside (all-waiting (meaning-of x))) (passed (ltb 0 (room-beside (all-waiting (meaning-of x)))) Full None (open-and-room .1) .0) in
-      omega (arith, all-waiting-is-total x)
+  put-room = omega (arith, all-waiting-is-total x, can-put .room)
 
   pub put-keeps :
       (packet : Packet) (after : Parts) → after .seats ≡ x .parts .seats →

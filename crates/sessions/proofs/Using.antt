@@ -22,10 +22,10 @@ use Rattle.calls.specs.declared.call.Call.the-variants.{Enter}
 use Rattle.calls.specs.declared.refusal.Refusal.{Refusal}
 use Rattle.calls.specs.declared.refusal.Refusal.the-variants.{NoSuchSession, NotOpen, BadLength, Full, OutOfReach, NothingWaiting, ServerBusy}
 use Rattle.waiting.specs.Queues.{queue, first-of}
-use Rattle.waiting.proofs.Sums.{sum-below-same, sum-below-changed}
+use Rattle.waiting.proofs.Sums.{sum-below-none, sum-below-same, sum-below-changed}
 use Rattle.waiting.proofs.Using.{at-most-256-wait, none-waiting}
 use Rattle.sharing.specs.Rules.{check, length-refusal, room-beside}
-use Rattle.sharing.specs.Meanings.{Meaning, Session, waiting-of, waiting-in, all-waiting, refusal, with-session, with-waiting, after-first, credited, after-open, after-enter, after-start, after-finish}
+use Rattle.sharing.specs.Meanings.{Meaning, Session, nothing-open, waiting-of, waiting-in, all-waiting, refusal, with-session, with-waiting, after-first, credited, after-open, after-enter, after-start, after-finish}
 use Rattle.sessions.specs.declared.seat.Seat.{Seat}
 use Rattle.sessions.specs.declared.seat.Seat.the-variants.{Closed, Open}
 use Rattle.sessions.specs.declared.condition.Condition.{Condition}
@@ -34,9 +34,9 @@ use Rattle.sessions.specs.declared.state.Sessions.{Sessions}
 use Rattle.sessions.specs.Seats.{seat-at, is-open, terms-within, session-of}
 use Rattle.sessions.specs.Conditions.{service-of}
 use Rattle.sessions.specs.Meanings.{meaning-of}
-use Rattle.sessions.specs.Verdicts.{why-put, why-start, length-of, length-answer, taken, take-answer}
+use Rattle.sessions.specs.Verdicts.{settled, why-open, why-put, why-start, after-served, length-of, length-answer, taken, take-answer}
 use Rattle.sessions.proofs.Reading.{open-is-some, waiting-is-queue, all-waiting-is-total}
-use Rattle.sessions.proofs.Keeping.{ghosts, passed, open-below, serves}
+use Rattle.sessions.proofs.Keeping.{ghosts, passed, openable, open-below, serves}
 
 -- ---- what always holds
 
@@ -72,6 +72,10 @@ carried Idle service is = let never : _≡_ {A = ℕ} 0 1 = cc in let no : ⊥ =
 carried Pausing service is = let never : _≡_ {A = ℕ} 0 1 = cc in let no : ⊥ = omega arith in absurd no
 carried (Carrying other) service is = cc
 
+some-session : (o : Option Session) (first : Packet) (rest : List Packet) → waiting-of o ≡ first ∷ rest → (t : Session) × (o ≡ Some t)
+some-session None first rest is = let never : _≡_ {A = ℕ} 0 1 = cc in let no : ⊥ = omega arith in absurd no
+some-session (Some t) first rest is = (t, refl)
+
 module _ (x : Sessions) where
   pub at-most-256 : all-waiting (meaning-of x) ≤ 256
   at-most-256 = omega (arith, all-waiting-is-total x, at-most-256-wait (x .parts .waiting))
@@ -82,6 +86,12 @@ module _ (x : Sessions) where
       let seat = seat-at (x .parts .seats) s in
       let packets = queue (x .parts .waiting) s in
       in-order seat packets s t (omega (arith, open-below (x .parts .seats) s (some-open seat packets t is), x .seats)) (x .terms s) is
+
+  -- a session with a waiting packet is open, and so below 64
+  pub waits-below-64 : (s : ℕ) (first : Packet) (rest : List Packet) → waiting-in (meaning-of x) s ≡ first ∷ rest → s < 64
+  waits-below-64 s first rest is =
+      let opened = some-session (meaning-of x .session s) first rest is in
+      open-in-order s (opened .0) (opened .1) .session
 
   -- the session of the packet in service is open, and so below 64
   pub serves-an-open : (service : Service) → meaning-of x .in-service ≡ Some service → isSome (meaning-of x .session (service .session)) ≡ true
@@ -148,23 +158,31 @@ waiting-closed : (o : Option Session) → isSome o ≡ false → waiting-of o �
 waiting-closed None closed = refl
 waiting-closed (Some t) closed = absurd (both-ways true closed refl)
 
+by-reason : (before after : Meaning) (k : ℕ) (why : Option Refusal) → (why ≡ None → waiting-in after k ≡ waiting-in before k) →
+    waiting-in (settled why before after) k ≡ waiting-in before k
+by-reason before after k None same = same refl
+by-reason before after k (Some reason) same = refl
+
+pub nothing-waits : all-waiting nothing-open ≡ 0
+nothing-waits = sum-below-none 64 (λ s. length (waiting-in nothing-open s)) (λ s low. refl)
+
+-- where the same packets wait, as many wait
+pub same-all-waiting : (m n : Meaning) → ((k : ℕ) → waiting-in n k ≡ waiting-in m k) → all-waiting n ≡ all-waiting m
+same-all-waiting m n same = sum-below-same 64 (λ k. length (waiting-in m k)) (λ k. length (waiting-in n k)) (λ k low. ap length (same k))
+
 module _ (m : Meaning) (s : ℕ) where
   -- opening and finishing leave what waits
   pub open-waiting : (weight limit : ℕ) → isSome (m .session s) ≡ false → (k : ℕ) → waiting-in (after-open m s weight limit) k ≡ waiting-in m k
   open-waiting weight limit closed = same-waiting m s _ (m .in-service) (sym (waiting-closed (m .session s) closed))
 
-  pub open-all-waiting : (weight limit : ℕ) → isSome (m .session s) ≡ false → all-waiting (after-open m s weight limit) ≡ all-waiting m
-  open-all-waiting weight limit closed =
-      sum-below-same 64 (λ k. length (waiting-in m k)) (λ k. length (waiting-in (after-open m s weight limit) k))
-      (λ k low. ap length (open-waiting weight limit closed k))
+  pub settled-open-waiting : (weight limit k : ℕ) →
+      waiting-in (settled (why-open m s weight limit) m (after-open m s weight limit)) k ≡ waiting-in m k
+  settled-open-waiting weight limit k =
+      by-reason m (after-open m s weight limit) k (why-open m s weight limit)
+      (λ none. open-waiting weight limit (openable (isSome (m .session s)) s (record { weight = weight; limit = limit }) none .closed) k)
 
   pub finish-waiting : (packet : Packet) (k : ℕ) → waiting-in (after-finish m s packet) k ≡ waiting-in m k
   finish-waiting packet = same-waiting m s _ None (waiting-finished (m .session s) (packet .length))
-
-  pub finish-all-waiting : (packet : Packet) → all-waiting (after-finish m s packet) ≡ all-waiting m
-  finish-all-waiting packet =
-      sum-below-same 64 (λ k. length (waiting-in m k)) (λ k. length (waiting-in (after-finish m s packet) k))
-      (λ k low. ap length (finish-waiting packet k))
 
   -- a packet more
   pub enter-waiting-here : (packet : Packet) → isSome (m .session s) ≡ true → waiting-in (after-enter m s packet) s ≡ waiting-in m s ++ packet ∷ []
@@ -201,6 +219,10 @@ module _ (m : Meaning) (s : ℕ) where
         ap length is,
         ap (λ ps. length (after-first ps)) is,
       )
+
+pub served-waiting : (m : Meaning) (r : Result Service Refusal) (k : ℕ) → waiting-in (after-served m r) k ≡ waiting-in m k
+served-waiting m (Ok service) k = finish-waiting m (service .session) (service .packet) k
+served-waiting m (Err reason) k = refl
 
 -- ---- entering: the checks of `check_length` come before those of room and reach
 
@@ -279,7 +301,46 @@ module _ (m : Meaning) (s n ticket : ℕ) where
         ∙ ap (λ o. length-refusal (mapped (λ t. t .limit) o) (room s) (reach s) n) (ok .1)
         ∙ cond-true (within n (ok .0 .limit)) (check (ltb 0 (room s)) Full (check (leb n (reach s)) OutOfReach None)) (Some BadLength) (ok .2)
 
--- a packet can wait where a session is open and there is a place
+-- a packet may enter
+pub record Accepted (m : Meaning) (room reach : ℕ → ℕ) (s n : ℕ) : Type 0 where
+  pub session : s < 64
+  pub is-open : isSome (m .session s) ≡ true
+  pub has-room : 0 < room s
+  pub in-reach : n ≤ reach s
+
+accepted-length : (o : Option Session) (n room reach : ℕ) → length-refusal (mapped (λ t. t .limit) o) room reach n ≡ None →
+    (isSome o ≡ true) × (check (ltb 0 room) Full (check (leb n reach) OutOfReach None) ≡ None)
+accepted-length None n room reach none = let never : _≡_ {A = ℕ} 0 1 = cc in let no : ⊥ = omega arith in absurd no
+accepted-length (Some t) n room reach none =
+    (refl, passed (within n (t .limit)) BadLength (check (ltb 0 room) Full (check (leb n reach) OutOfReach None)) none .1)
+
+pub accepted : (m : Meaning) (room reach : ℕ → ℕ) (s n ticket : ℕ) → refusal m room reach (Enter s n ticket) ≡ None → Accepted m room reach s n
+accepted m room reach s n ticket none =
+    let low = passed (ltb s 64) NoSuchSession (length-refusal (mapped (λ t. t .limit) (m .session s)) (room s) (reach s) n) none in
+    let opened = accepted-length (m .session s) n (room s) (reach s) (low .1) in
+    let some = passed (ltb 0 (room s)) Full (check (leb n (reach s)) OutOfReach None) (opened .1) in
+    let within = passed (leb n (reach s)) OutOfReach None (some .1) in
+    record {
+      session = ltb-true s 64 (low .0);
+      is-open = opened .0;
+      has-room = ltb-true 0 (room s) (some .0);
+      in-reach = leb-true n (reach s) (within .0);
+    }
+
+-- a packet can wait where a session is open and there is a place, and only there
+pub record Puttable (m : Meaning) (s : ℕ) : Type 0 where
+  pub session : s < 64
+  pub is-open : isSome (m .session s) ≡ true
+  pub room : all-waiting m < 256
+
+pub put-parts : (m : Meaning) (s : ℕ) → why-put m s ≡ None → Puttable m s
+put-parts m s none =
+    let room = check (ltb 0 (room-beside (all-waiting m))) Full None in
+    let low = passed (ltb s 64) NoSuchSession (check (isSome (m .session s)) NotOpen room) none in
+    let opened = passed (isSome (m .session s)) NotOpen room (low .1) in
+    let some = ltb-true 0 (room-beside (all-waiting m)) (passed (ltb 0 (room-beside (all-waiting m))) Full None (opened .1) .0) in
+    record { session = ltb-true s 64 (low .0); is-open = opened .0; room = omega arith }
+
 pub puttable : (m : Meaning) (s : ℕ) → s < 64 → isSome (m .session s) ≡ true → all-waiting m < 256 → why-put m s ≡ None
 puttable m s low opened room =
     cond-true (ltb s 64) (check (isSome (m .session s)) NotOpen (check (ltb 0 (room-beside (all-waiting m))) Full None)) (Some NoSuchSession) (lt-ltb s 64 low)
