@@ -1,0 +1,4 @@
+pub mod Entries
+pub mod Listing
+pub mod Stepping
+pub mod Moving

@@ -1,0 +1,4 @@
+pub mod Rings
+pub mod Invariants
+pub mod Models
+pub mod States
