@@ -1,7 +1,7 @@
 -- The checks of an entry, one after the other, are its rule; and the reach is what is asked.
 use mathlib.Core.Bool.{Bool, true, false, cond}
 use mathlib.Core.Path.{_≡_, refl, sym, ap, _∙_}
-use Prim.Native.Nat.{ℕ, _<_, _≤_, max}
+use Prim.Native.Nat.{ℕ, _≤_, max}
 use native.Mathlib.Omega.{arith}
 use lib.Dec.{ltb, leb}
 use Rattle.std.specs.declared.option.Option.{Option}
@@ -11,7 +11,6 @@ use Rattle.std.specs.declared.result.Result.the-variants.{Ok, Err}
 use Rattle.std.proofs.shelf.Tests.{and-from, cond-true, lt-ltb, le-leb}
 use Rattle.calls.specs.Strides.{within}
 use Rattle.calls.specs.declared.call.Terms.{Terms}
-use Rattle.calls.specs.declared.call.Call.the-variants.{Enter}
 use Rattle.calls.specs.declared.refusal.Refusal.{Refusal}
 use Rattle.calls.specs.declared.refusal.Refusal.the-variants.{NoSuchSession, BadWeight, Full, OutOfReach}
 use Rattle.sharing.specs.Histories.{weight-in}
@@ -22,7 +21,7 @@ use Rattle.sharing.proofs.Pending.{terms-in}
 use Rattle.sharing.proofs.Reaches.{within-reach}
 use Rattle.sessions.specs.Verdicts.{verdict, length-answer}
 use Rattle.sessions.proofs.Using.{In-order, enterable, enter-by-room-and-reach}
-use Rattle.self_clocked.specs.Exact.{weight-at, room-of, reach-of, refusal-of, enter-answer}
+use Rattle.self_clocked.specs.Exact.{weight-at, room-of, reach-of, enter-answer}
 use Rattle.self_clocked.specs.Marks.{room-answer-at, under-ceiling, mark-answer, reach-answer-at}
 
 ok-passes : {A : Type 0} (b : Bool) (value : A) (others : Result A Refusal) (reason : Refusal) → Ok value ≡ cond b others (Err reason) → (b ≡ true) × (Ok value ≡ others)

@@ -1,8 +1,8 @@
 -- Each call as it is made is the exact step, and the line is sound after it.
-use mathlib.Core.Bool.{Bool, true, false, cond, not}
+use mathlib.Core.Bool.{Bool, true, false, cond}
 use mathlib.Core.List.{List, [], _∷_}
 use mathlib.Core.Path.{_≡_, refl, sym, ap, subst, _∙_}
-use Prim.Native.Nat.{ℕ, zero, suc, _<_, _≤_, max}
+use Prim.Native.Nat.{ℕ, zero, suc}
 use native.Mathlib.Omega.{arith}
 use lib.Dec.{eqb, ltb}
 use lib.ListN.{length, getD, set, replicate}
@@ -12,24 +12,23 @@ use Rattle.std.specs.declared.option.Option.the-variants.{Some, None}
 use Rattle.std.specs.declared.result.Result.{Result}
 use Rattle.std.specs.declared.result.Result.the-variants.{Ok, Err}
 use Rattle.std.proofs.shelf.Lists.{getD-replicate}
-use Rattle.std.proofs.shelf.Tests.{cond-true, ltb-true}
+use Rattle.std.proofs.shelf.Tests.{cond-true}
 use Rattle.calls.specs.Strides.{within}
 use Rattle.calls.specs.declared.call.Packet.{Packet}
 use Rattle.calls.specs.declared.call.Service.{Service}
-use Rattle.calls.specs.declared.call.Terms.{Terms}
 use Rattle.calls.specs.declared.call.Call.{Call}
 use Rattle.calls.specs.declared.call.Call.the-variants.{Open, Enter, Start, Finish}
 use Rattle.calls.specs.declared.call.Answer.{Answer}
 use Rattle.calls.specs.declared.call.Answer.the-variants.{Entered, Refused}
 use Rattle.calls.specs.declared.refusal.Refusal.{Refusal}
-use Rattle.calls.specs.declared.refusal.Refusal.the-variants.{NoSuchSession, NotOpen, BadLength, Full, OutOfReach, BadWeight, NothingWaiting, ServerBusy}
-use Rattle.ready.specs.Tags.{Tags, tag-of, no-entries, least-of, without}
+use Rattle.calls.specs.declared.refusal.Refusal.the-variants.{NoSuchSession, NotOpen, BadLength, Full}
+use Rattle.ready.specs.Tags.{Tags, no-entries, least-of, without}
 use Rattle.ready.proofs.Leasts.{least-tag}
 use Rattle.waiting.specs.Queues.{first-of}
-use Rattle.sharing.specs.Rules.{check, room-beside, reach-from, length-refusal, finish-refusal}
-use Rattle.sharing.specs.Meanings.{Session, Meaning, nothing-open, waiting-in, all-waiting, after-open, after-first, after-finish, if-open, terms-answer, reach-answer}
+use Rattle.sharing.specs.Rules.{check, room-beside, length-refusal, finish-refusal}
+use Rattle.sharing.specs.Meanings.{Session, Meaning, nothing-open, waiting-in, all-waiting, after-open, after-finish}
 use Rattle.sharing.specs.Clocked.{Clocked, while-waiting}
-use Rattle.sharing.proofs.Pending.{terms-in, finish-waiting, open-allowed}
+use Rattle.sharing.proofs.Pending.{finish-waiting, open-allowed}
 use Rattle.discipline.specs.Answers.{opened, entered, started, finished}
 use Rattle.sessions.specs.Verdicts.{verdict, settled, why-open, why-put, why-start, taken, served, finish-answer, after-served}
 use Rattle.sessions.proofs.Keeping.{passed}
@@ -69,10 +68,6 @@ abbrev pub Stepped : Tags → Clocked → Call → Answer → Clocked → Type 0
 Stepped tags x call answer y = Exact x call answer y × Sound tags y
 
 -- ---- a verdict tells whether there is a reason
-
-pub verdict-err : {A : Type 0} (o : Option Refusal) (value : A) (reason : Refusal) → Err reason ≡ verdict o value → o ≡ Some reason
-verdict-err None value reason e = let z : _≡_ {A = ℕ} 0 1 = cc in let no : ⊥ = omega arith in absurd no
-verdict-err (Some other) value reason e = cc
 
 pub verdict-ok : {A : Type 0} (o : Option Refusal) (value given : A) → Ok given ≡ verdict o value → (o ≡ None) × (given ≡ value)
 verdict-ok None value given e = (refl, cc)
@@ -158,14 +153,6 @@ step-entered tags x y s n ticket mark is to ready =
 
 -- ---- start
 
--- the ready line has an entry then
-pub start-some : (tags : Tags) (x : Clocked) → why-start (x .meaning) ≡ None → tags ≡ first-marks (x .meaning) → None ≡ least-of tags → ⊥
-start-some tags x none ready is =
-    let n = next-to-start x none in
-    let empty : next (x .meaning) ≡ None = ap (first-with (x .meaning)) (sym (is ∙ ap least-of ready)) in
-    let some = n .is in
-    let z : _≡_ {A = ℕ} 0 1 = cc in omega arith
-
 -- its least entry is due
 pub start-due : (tags rest : Tags) (m : Meaning) (mark s : ℕ) → why-start m ≡ None → tags ≡ first-marks m → Some (mark, s) ≡ least-of tags →
     rest ≡ without tags (Some (mark, s)) → Due rest m mark s
@@ -196,10 +183,6 @@ step-started tags rest left x y mark s r none ready is due answer to now-ready =
     same-answer (p ∷ ps) = refl
 
 -- ---- finish
-
-pub served-err : (o : Option Service) (reason : Refusal) → Err reason ≡ served o → finish-refusal (isSome o) ≡ Some reason
-served-err None reason e = cc
-served-err (Some service) reason e = let z : _≡_ {A = ℕ} 0 1 = cc in let no : ⊥ = omega arith in absurd no
 
 served-ok : (o : Option Service) (service : Service) → Ok service ≡ served o → o ≡ Some service
 served-ok None service e = let z : _≡_ {A = ℕ} 0 1 = cc in let no : ⊥ = omega arith in absurd no

@@ -1,14 +1,13 @@
 -- The reach, by one division.
 use mathlib.Core.Logic.{_⊎_, inl, inr}
 use mathlib.Core.Path.{_≡_, sym, ap, _∙_}
-use Prim.Native.Nat.{ℕ, _+_, _-_, _*_, _/_, _<_, _≤_, min, max}
-use native.Mathlib.Nat.{mul-le-mul-right, div-mul-le-self, div-lt-iff-lt-mul, div-le-self}
+use Prim.Native.Nat.{ℕ, _-_, _*_, _/_, _<_, _≤_, min}
+use native.Mathlib.Nat.{mul-le-mul-right, div-mul-le-self, div-lt-iff-lt-mul}
 use native.Mathlib.Omega.{arith}
-use Rattle.std.proofs.shelf.Tests.{cases-eq, cond-true, and-from, lt-ltb, le-leb}
-use Rattle.std.specs.declared.result.Result.the-variants.{Ok, Err}
-use Rattle.calls.specs.Strides.{within, stride, stride-answer}
+use Rattle.std.proofs.shelf.Tests.{cases-eq}
+use Rattle.calls.specs.Strides.{stride}
 use Rattle.calls.proofs.Tables.{weight-times-stride}
-use Rattle.sharing.specs.Rules.{mark-from, ceiling, reach-from}
+use Rattle.sharing.specs.Rules.{ceiling, reach-from}
 use Rattle.sharing.proofs.Reaches.{reach-is}
 
 pub stride-positive : (w : ℕ) → 0 < w → w ≤ 16 → 0 < stride w

@@ -1,11 +1,11 @@
 -- What entering a packet makes of the line and of its ready line.
-use mathlib.Core.Bool.{Bool, true, false, cond}
+use mathlib.Core.Bool.{true, false, cond}
 use mathlib.Core.List.{List, [], _∷_}
 use mathlib.Core.Logic.{_⊎_, inl, inr}
 use mathlib.Core.Path.{_≡_, refl, sym, ap, _∙_}
 use Prim.Native.Nat.{ℕ, _<_}
 use native.Mathlib.Omega.{arith}
-use lib.Dec.{eqb, ltb}
+use lib.Dec.{ltb}
 use lib.ListN.{length, set}
 use Rattle.std.specs.Options.{isSome}
 use Rattle.std.specs.declared.option.Option.{Option}
@@ -14,13 +14,12 @@ use Rattle.std.specs.declared.result.Result.the-variants.{Ok}
 use Rattle.std.proofs.shelf.Lists.{getD-set-same, getD-set-other}
 use Rattle.std.proofs.shelf.Tests.{cases-eq, eq-eqb, ne-eqb, ltb-true}
 use Rattle.calls.specs.declared.call.Packet.{Packet}
-use Rattle.calls.specs.declared.refusal.Refusal.{Refusal}
 use Rattle.calls.specs.declared.refusal.Refusal.the-variants.{NoSuchSession, NotOpen, Full}
 use Rattle.waiting.specs.Queues.{first-of}
 use Rattle.ready.specs.Tags.{Tags, add-answer, added}
 use Rattle.sharing.specs.Rules.{room-beside, check}
 use Rattle.sharing.specs.Meanings.{Session, Meaning, waiting-in, all-waiting, after-enter}
-use Rattle.sharing.specs.Clocked.{Clocked, with-mark}
+use Rattle.sharing.specs.Clocked.{with-mark}
 use Rattle.sessions.specs.Verdicts.{settled, why-put}
 use Rattle.sessions.proofs.Keeping.{passed}
 use Rattle.self_clocked.specs.Exact.{first-marks, entered-at}

@@ -1,25 +1,24 @@
 -- The marks of the first waiting packets, and what each call makes of them.
 use mathlib.Core.Bool.{Bool, true, false, cond}
-use mathlib.Core.List.{List, [], _∷_, _++_, map}
+use mathlib.Core.List.{List, [], _∷_, map}
 use mathlib.Core.Logic.{_⊎_, inl, inr}
-use mathlib.Core.Path.{_≡_, refl, sym, ap, subst, _∙_}
-use Prim.Native.Nat.{ℕ, zero, suc, _+_, _<_, _≤_}
+use mathlib.Core.Path.{_≡_, refl, sym, ap, _∙_}
+use Prim.Native.Nat.{ℕ, _<_}
 use native.Mathlib.Omega.{arith}
 use lib.Dec.{eqb}
 use lib.ListN.{length, set}
 use Rattle.std.specs.Iters.{counting}
-use Rattle.std.specs.Options.{mapped}
 use Rattle.std.specs.declared.option.Option.{Option}
 use Rattle.std.specs.declared.option.Option.the-variants.{Some, None}
 use Rattle.std.proofs.shelf.Counted.{fill-by-all, length-map-counting, getD-map-counting}
-use Rattle.std.proofs.shelf.Lists.{getD-set-same, getD-set-other, length-set, set-set}
+use Rattle.std.proofs.shelf.Lists.{getD-set-same, getD-set-other, length-set}
 use Rattle.std.proofs.shelf.Tests.{cases-eq, eq-eqb, ne-eqb}
 use Rattle.calls.specs.declared.call.Packet.{Packet}
 use Rattle.calls.specs.declared.call.Service.{Service}
 use Rattle.ready.specs.Order.{Entry}
 use Rattle.ready.specs.Tags.{Tags, tag-of, least-of}
 use Rattle.ready.proofs.Leasts.{none-some, same-some, least-tag, least-within}
-use Rattle.sharing.specs.Meanings.{Session, Meaning, waiting-of, waiting-in, with-session, after-first, after-open, after-enter, after-start, after-finish}
+use Rattle.sharing.specs.Meanings.{Session, Meaning, waiting-of, waiting-in, with-session, after-first}
 use Rattle.sharing.proofs.Pending.{by-session}
 use Rattle.self_clocked.specs.Exact.{first-mark, first-marks, with-first, first-with, next}
 

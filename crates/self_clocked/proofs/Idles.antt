@@ -1,13 +1,12 @@
 -- An idle line has room, and each session reaches its limit.
-use mathlib.Core.Bool.{true}
 use mathlib.Core.Logic.{_⊎_, inl, inr}
 use mathlib.Core.Path.{_≡_, sym, ap, subst}
-use Prim.Native.Nat.{ℕ, _+_, _*_, _/_, _<_, _≤_, max}
+use Prim.Native.Nat.{ℕ, _<_, _≤_, max}
 use native.Mathlib.Nat.{mul-le-mul-right, mul-le-mul-left, div-le-self}
 use native.Mathlib.Omega.{arith}
 use lib.Dec.{leb}
-use Rattle.std.specs.declared.option.Option.the-variants.{Some, None}
-use Rattle.std.proofs.shelf.Tests.{cases-lt, leb-true, le-leb}
+use Rattle.std.specs.declared.option.Option.the-variants.{None}
+use Rattle.std.proofs.shelf.Tests.{cases-lt, le-leb}
 use Rattle.calls.specs.Strides.{stride}
 use Rattle.ready.specs.Tags.{Tags}
 use Rattle.sharing.specs.Rules.{mark-from, ceiling, reach-from}

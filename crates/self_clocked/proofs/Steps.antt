@@ -1,16 +1,14 @@
 -- Each exact step of a sound line is a general step, and a self-clocked one.
-use mathlib.Core.Bool.{Bool, true, false, cond, not}
 use mathlib.Core.List.{List, [], _∷_}
 use mathlib.Core.Logic.{_⊎_, inl, inr}
 use mathlib.Core.Path.{_≡_, refl, sym, ap, subst, subst₂, _∙_}
-use Prim.Native.Nat.{ℕ, zero, suc, _+_, _<_, _≤_}
+use Prim.Native.Nat.{ℕ, zero, suc, _<_, _≤_}
 use native.Mathlib.Omega.{arith}
-use lib.Dec.{eqb, ltb}
 use lib.ListN.{length}
 use Rattle.std.specs.Options.{isSome}
 use Rattle.std.specs.declared.option.Option.{Option}
 use Rattle.std.specs.declared.option.Option.the-variants.{Some, None}
-use Rattle.std.proofs.shelf.Tests.{cases-lt, ltb-true}
+use Rattle.std.proofs.shelf.Tests.{cases-lt}
 use Rattle.std.proofs.shelf.Ways.{tells}
 use Rattle.calls.specs.Sums.{sum-below}
 use Rattle.calls.specs.declared.call.Packet.{Packet}
@@ -18,14 +16,12 @@ use Rattle.calls.specs.declared.call.Service.{Service}
 use Rattle.calls.specs.declared.call.Call.{Call}
 use Rattle.calls.specs.declared.call.Call.the-variants.{Open, Enter, Start, Finish}
 use Rattle.calls.specs.declared.call.Answer.{Answer}
-use Rattle.calls.specs.declared.call.Answer.the-variants.{Opened, Entered, Started, Finished, Refused}
+use Rattle.calls.specs.declared.call.Answer.the-variants.{Refused}
 use Rattle.calls.specs.declared.refusal.Refusal.{Refusal}
-use Rattle.calls.specs.declared.refusal.Refusal.the-variants.{ServerBusy, NothingWaiting}
 use Rattle.ready.specs.Order.{Entry, At-most}
-use Rattle.ready.specs.Tags.{Tags, tag-of, least-of}
-use Rattle.ready.specs.Least.{Is-least}
-use Rattle.ready.proofs.Leasts.{least-is-least, is-least-from}
-use Rattle.sharing.specs.Rules.{check, finish-refusal}
+use Rattle.ready.specs.Tags.{tag-of, least-of}
+use Rattle.ready.proofs.Leasts.{is-least-from}
+use Rattle.sharing.specs.Rules.{finish-refusal}
 use Rattle.sharing.specs.Meanings.{Session, Meaning, waiting-of, waiting-in, all-waiting, after-first, General}
 use Rattle.sharing.specs.Meanings as step
 use Rattle.sharing.specs.Clocked.{Clocked, Marks, Clocked-step}

@@ -1,8 +1,6 @@
 // Marks, and how long a packet may be.
 ghost use mathlib.Core.Path.{_≡_};
-ghost use Prim.Native.Nat.{max, _*_, _≤_};
-ghost use Rattle.calls.specs.Strides.{charge, stride};
-ghost use Rattle.sharing.specs.Rules.{reach-from};
+ghost use Prim.Native.Nat.{_/_, _<_, max, min};
 ghost use Rattle.self_clocked.specs.Marks.{mark-answer, under-ceiling, reach-answer-at};
 use calls::refusal::Refusal;
 use calls::stride::charge;
@@ -40,11 +38,19 @@ pub(crate) fn mark(last: u64, clock: u64, length: u32, weight: u32) -> Result<u6
     check_ceiling(base(last, clock).saturating_add(step))
 }
 
+// How many octets of this stride fit into what is left below the ceiling, up to 65,535.
+fn octets_within(left: u64, stride: u32) -> u32
+    requires { ⌜ 0 < stride ⌝ }
+    ensures { λ r. ⌜ r ≡ min (left / stride) 65535 ⌝ }
+{
+    (left / u64::from(stride)).min(LONGEST) as u32
+}
+
 // The longest length up to 65,535 whose mark is not above the ceiling, or 0.
 pub(crate) fn reach(last: u64, clock: u64, weight: u32) -> Result<u32, Refusal>
     ensures { λ r. ⌜ r ≡ reach-answer-at last clock weight ⌝ }
 {
     let stride = stride(weight)?;
     let left = CEILING.saturating_sub(base(last, clock));
-    Ok((left / u64::from(stride)).min(LONGEST) as u32)
+    Ok(octets_within(left, stride))
 }

@@ -6,6 +6,7 @@ ghost use mathlib.Core.Bool.{cond};
 ghost use Rattle.std.specs.declared.option.Option.the-variants.{None};
 ghost use Rattle.std.specs.declared.result.Result.the-variants.{Ok};
 ghost use Rattle.waiting.specs.Queues.{first-of};
+ghost use Rattle.ready.specs.Tags.{no-entries};
 ghost use Rattle.sharing.specs.Rules.{room-beside};
 ghost use Rattle.sharing.specs.Meanings.{all-waiting, waiting-in};
 ghost use Rattle.sharing.specs.Clocked.{while-waiting};
@@ -25,6 +26,14 @@ use sessions::state::Sessions;
 // How many packets may wait, of all sessions together.
 const PLACES: u32 = 256;
 
+// A ready line with no entries, whatever it had.
+fn cleared<R: ReadyLine>(mut ready: R) -> R
+    ensures { λ r. ⌜ R·ReadyLine .tags r ≡ no-entries ⌝ }
+{
+    ready.clear();
+    ready
+}
+
 // The session comes into the ready line again with its next packet, if one waits.
 fn renew<R: ReadyLine>(ready: &mut R, next: Option<Packet>, session: u32) -> Result<(), Refusal>
     ensures answer { λ r. ⌜ r ≡ renew-answer (R·ReadyLine .tags (now (ready .entry))) next session ⌝ }
@@ -38,15 +47,14 @@ fn renew<R: ReadyLine>(ready: &mut R, next: Option<Packet>, session: u32) -> Res
 
 impl<R: ReadyLine + Drop> SelfClocked<R> {
     // Every session closed, nothing waits, and the clock and every last mark at 0. What the ready line had is cleared.
-    pub fn new(mut ready: R) -> SelfClocked<R>
+    pub fn new(ready: R) -> SelfClocked<R>
         ensures { λ r. ⌜ Fresh (R·ReadyLine .tags (r .ready)) (state r) ⌝ }
     {
-        ready.clear();
         SelfClocked {
             sessions: Sessions::new(),
             clock: 0,
             lasts: [0; 64],
-            ready,
+            ready: cleared(ready),
         }
     }
 
