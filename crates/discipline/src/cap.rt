@@ -123,8 +123,8 @@ pub impl<D: Discipline + Drop> Discipline for Cap<D> as CapDiscipline {
 
     fn room(&self, session: u32) -> Result<u32, Refusal> {
         let below = self.below.room(session)?;
-        let waiting = self.below.waiting_count(session)?;
-        Ok(below.min(self.cap.places(waiting)))
+        let queued = self.below.waiting_count(session)?;
+        Ok(below.min(self.cap.places(queued)))
     }
 
     fn reach(&self, session: u32) -> Result<u32, Refusal> {

@@ -24,7 +24,7 @@ pub const LONGEST: usize = 80;
 
 // The fields of a line that are still to be read.
 #[derive(Clone, Copy)]
-pub struct Fields<'a> {
+struct Fields<'a> {
     rest: Option<&'a [u8]>,
 }
 
