@@ -10,7 +10,7 @@ use crate::entry::Entry;
 use crate::entry::at_most;
 
 // Puts a heap in order that is in order but for its last entry.
-pub fn move_up(heap: &mut [Entry])
+pub(crate) fn move_up(heap: &mut [Entry])
     requires { ⌜ Heap-ordered 1 (length (now heap) - 1) (now heap) ⌝ }
     ensures same { λ _. ⌜ Same-entries (now (heap .entry)) (now (heap .exit)) ⌝ }
     ensures ordered { λ _. ⌜ Heap-ordered 1 (length (now (heap .exit))) (now (heap .exit)) ⌝ }
@@ -55,7 +55,7 @@ fn first_child(heap: &[Entry], at: usize) -> usize
 }
 
 // Puts a heap in order that is in order but for its first entry, whose children are at places 1 and 2.
-pub fn move_down(heap: &mut [Entry])
+pub(crate) fn move_down(heap: &mut [Entry])
     requires { ⌜ Heap-ordered 3 (length (now heap)) (now heap) ⌝ }
     ensures same { λ _. ⌜ Same-entries (now (heap .entry)) (now (heap .exit)) ⌝ }
     ensures ordered { λ _. ⌜ Heap-ordered 1 (length (now (heap .exit))) (now (heap .exit)) ⌝ }
