@@ -1,6 +1,6 @@
 -- What a row of calls does to a line and to its history.
 use mathlib.Core.Bool.{cond}
-use mathlib.Core.List.{List}
+use mathlib.Core.List.{List, _++_}
 use mathlib.Core.Path.{_≡_}
 use Prim.Native.Nat.{ℕ}
 use lib.Dec.{leb}
@@ -25,6 +25,9 @@ pub record Continues {X : Type 0} (fresh : X → Type 0) (steps : X → Call →
   pub led : (h : History) → Led fresh steps h x → Led fresh steps (extended h calls after) y
   -- and the statement holds of it
   pub holds : (h : History) → Led fresh steps h x → Statement (extended h calls after) (meaning y)
+  -- as it does at every moment of that history: there the line was in a state to which the history so far had led
+  pub moments : (h : History) → Led fresh steps h x → (since before : History) → extended h calls after ≡ since ++ before →
+      (z : X) × Led fresh steps before z × Statement before (meaning z)
   -- answers beyond those of the calls are as they were
   pub beyond : drop (length calls) after ≡ drop (length calls) before
 

@@ -26,6 +26,12 @@ whole-run fresh sound steps meaning clocked moves begins keeps same new does cal
       line = clocked y;
       led = led-along fresh steps New moves clocked sound begins keeps new does (extended [] calls after) y (run .led [] began);
       fair = subst (Fair (extended [] calls after)) (sym (same y)) (run .holds [] began);
+      moments = λ since so-far cut.
+          let m = run .moments [] began since so-far cut in (
+            clocked (m .0),
+            led-along fresh steps New moves clocked sound begins keeps new does so-far (m .0) (m .1),
+            subst (Fair so-far) (sym (same (m .0))) (m .2),
+          );
       beyond = run .beyond;
     }
 whole-run fresh sound steps meaning clocked moves begins keeps same new does calls before after x y (Err reason) began run = run .1
