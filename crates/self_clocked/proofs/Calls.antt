@@ -4,16 +4,14 @@ use mathlib.Core.List.{List, [], _∷_}
 use mathlib.Core.Path.{_≡_, refl, sym, ap, subst, _∙_}
 use Prim.Native.Nat.{ℕ, zero, suc}
 use native.Mathlib.Omega.{arith}
-use lib.Dec.{eqb, ltb}
+use lib.Dec.{eqb}
 use lib.ListN.{length, getD, set, replicate}
-use Rattle.std.specs.Options.{isSome, mapped}
+use Rattle.std.specs.Options.{isSome}
 use Rattle.std.specs.declared.option.Option.{Option}
 use Rattle.std.specs.declared.option.Option.the-variants.{Some, None}
 use Rattle.std.specs.declared.result.Result.{Result}
-use Rattle.std.specs.declared.result.Result.the-variants.{Ok, Err}
+use Rattle.std.specs.declared.result.Result.the-variants.{Ok}
 use Rattle.std.proofs.shelf.Lists.{getD-replicate}
-use Rattle.std.proofs.shelf.Tests.{cond-true}
-use Rattle.calls.specs.Strides.{within}
 use Rattle.calls.specs.declared.call.Packet.{Packet}
 use Rattle.calls.specs.declared.call.Service.{Service}
 use Rattle.calls.specs.declared.call.Call.{Call}
@@ -21,18 +19,16 @@ use Rattle.calls.specs.declared.call.Call.the-variants.{Open, Enter, Start, Fin
 use Rattle.calls.specs.declared.call.Answer.{Answer}
 use Rattle.calls.specs.declared.call.Answer.the-variants.{Entered, Refused}
 use Rattle.calls.specs.declared.refusal.Refusal.{Refusal}
-use Rattle.calls.specs.declared.refusal.Refusal.the-variants.{NoSuchSession, NotOpen, BadLength, Full}
 use Rattle.ready.specs.Tags.{Tags, no-entries, least-of, without}
 use Rattle.ready.proofs.Leasts.{least-tag}
 use Rattle.waiting.specs.Queues.{first-of}
-use Rattle.sharing.specs.Rules.{check, room-beside, length-refusal, finish-refusal}
-use Rattle.sharing.specs.Meanings.{Session, Meaning, nothing-open, waiting-in, all-waiting, after-open, after-finish}
+use Rattle.sharing.specs.Rules.{finish-refusal}
+use Rattle.sharing.specs.Meanings.{Meaning, nothing-open, waiting-in, all-waiting, after-open, after-finish}
 use Rattle.sharing.specs.Clocked.{Clocked, while-waiting}
-use Rattle.sharing.proofs.Pending.{finish-waiting, open-allowed}
+use Rattle.sharing.proofs.Pending.{open-allowed}
 use Rattle.discipline.specs.Answers.{opened, entered, started, finished}
 use Rattle.sessions.specs.Verdicts.{verdict, settled, why-open, why-put, why-start, taken, served, finish-answer, after-served}
-use Rattle.sessions.proofs.Keeping.{passed}
-use Rattle.sessions.proofs.Using.{startable}
+use Rattle.sessions.proofs.Using.{same-all-waiting, finish-waiting, accepted, puttable, put-parts, startable}
 use Rattle.self_clocked.specs.Exact.{
   room-of,
   reach-of,
@@ -59,9 +55,8 @@ use Rattle.self_clocked.specs.Exact.{
 }
 use Rattle.self_clocked.specs.States.{last-in}
 use Rattle.self_clocked.proofs.Firsts.{first-marks-at, first-marks-from, least-first}
-use Rattle.self_clocked.proofs.Keeps.{all-same, sound-opened, sound-entered, sound-started, sound-finished}
+use Rattle.self_clocked.proofs.Keeps.{sound-opened, sound-entered, sound-started, sound-finished}
 use Rattle.self_clocked.proofs.Steps.{next-to-start}
-use Rattle.self_clocked.proofs.Entries.{put-open}
 
 -- the exact step of a call, and a sound line after it
 abbrev pub Stepped : Tags → Clocked → Call → Answer → Clocked → Type 0
@@ -110,24 +105,9 @@ step-opened tags x y s weight limit r answer to ok = go (why-open (x .meaning) s
         let left : Clocked = record { meaning = y; clock = x .clock; last = x .last } in
         let at : left ≡ opened-at x s weight limit = λ i. record { meaning = to i; clock = x .clock; last = x .last } in
         step-accepted tags x left (Open s weight limit) (opened r) why (ap opened is) at
-        (subst (Sound tags) (sym at) (sound-opened tags x s weight limit ok (may .was-closed)))
+        (subst (Sound tags) (sym at) (sound-opened tags x s weight limit ok (ap isSome (may .was-closed))))
 
 -- ---- enter
-
--- a packet that may enter may be put
-length-put : (o : Option Session) (s n room reach : ℕ) (others : Option Refusal) → others ≡ check (ltb 0 room) Full None →
-    length-refusal (mapped (λ t. t .limit) o) room reach n ≡ None → check (isSome o) NotOpen others ≡ None
-length-put None s n room reach others is none = let z : _≡_ {A = ℕ} 0 1 = cc in let no : ⊥ = omega arith in absurd no
-length-put (Some t) s n room reach others is none =
-    let fits = passed (within n (t .limit)) BadLength (check (ltb 0 room) Full _) none in
-    let placed = passed (ltb 0 room) Full _ (fits .1) in
-    is ∙ cond-true (ltb 0 room) None (Some Full) (placed .0)
-
-enter-put : (x : Clocked) (s n ticket : ℕ) → refusal-of x (Enter s n ticket) ≡ None → why-put (x .meaning) s ≡ None
-enter-put x s n ticket none =
-    let number = passed (ltb s 64) NoSuchSession _ none in
-    cond-true (ltb s 64) (check (isSome (x .meaning .session s)) NotOpen (check (ltb 0 (room-beside (all-waiting (x .meaning)))) Full None)) (Some NoSuchSession) (number .0) ∙
-    length-put (x .meaning .session s) s n (room-of x s) (reach-of x s) _ refl (number .1)
 
 -- a packet that is admitted has the mark of the rule, and may be put
 pub record Admitted (x : Clocked) (s n ticket mark : ℕ) : Type 0 where
@@ -138,7 +118,8 @@ pub record Admitted (x : Clocked) (s n ticket mark : ℕ) : Type 0 where
 pub admitted : (x : Clocked) (s n ticket mark : ℕ) → Ok mark ≡ enter-answer x s n → Admitted x s n ticket mark
 admitted x s n ticket mark is =
     let both = verdict-ok (refusal-of x (Enter s n ticket)) (mark-for x s n) mark is in
-    record { allowed = both .0; mark-is = both .1; putting = enter-put x s n ticket (both .0) }
+    let may = accepted (x .meaning) (room-of x) (reach-of x) s n ticket (both .0) in
+    record { allowed = both .0; mark-is = both .1; putting = puttable (x .meaning) s (may .session) (may .is-open) (omega (arith, may .has-room)) }
 
 pub step-entered : (tags : Tags) (x y : Clocked) (s n ticket mark : ℕ) → Ok mark ≡ enter-answer x s n →
     y ≡ entered-at x s (record { length = n; ticket = ticket; mark = mark }) → tags ≡ first-marks (y .meaning) →
@@ -146,10 +127,10 @@ pub step-entered : (tags : Tags) (x y : Clocked) (s n ticket mark : ℕ) → Ok 
 step-entered tags x y s n ticket mark is to ready =
     let may = admitted x s n ticket mark is in
     let p : Packet = record { length = n; ticket = ticket; mark = mark } in
-    let o = put-open (x .meaning) s (may .putting) in
+    let o = put-parts (x .meaning) s (may .putting) in
     step-accepted tags x y (Enter s n ticket) (Entered mark) (may .allowed) (ap Entered (may .mark-is))
     (to ∙ (λ i. entered-at x s (record { length = n; ticket = ticket; mark = may .mark-is i })))
-    (subst (Sound tags) (sym to) (sound-entered tags x s p (o .session) (o .number) (o .is-open) (ready ∙ ap (λ z. first-marks (z .meaning)) to)))
+    (subst (Sound tags) (sym to) (sound-entered tags x s p (o .session) (o .is-open) (ready ∙ ap (λ z. first-marks (z .meaning)) to)))
 
 -- ---- start
 
@@ -204,7 +185,7 @@ step-finished tags x y lasts new-lasts clock service had is to clock-is lasts-ar
     let m = x .meaning in
     let held : m .in-service ≡ Some service = served-ok (m .in-service) service is in
     let allowed : refusal-of x Finish ≡ None = ap (λ o. finish-refusal (isSome o)) held in
-    let waiting : all-waiting y ≡ all-waiting m = ap all-waiting to ∙ all-same m (after-finish m (service .session) (service .packet)) (finish-waiting m (service .session) (service .packet)) in
+    let waiting : all-waiting y ≡ all-waiting m = ap all-waiting to ∙ same-all-waiting m (after-finish m (service .session) (service .packet)) (finish-waiting m (service .session) (service .packet)) in
     let b : eqb (all-waiting y) 0 ≡ eqb (all-waiting m) 0 = ap (λ n. eqb n 0) waiting in
     let clock-path : clock ≡ while-waiting m (x .clock) = clock-is ∙ ap (λ t. cond t 0 (x .clock)) b in
     let last-path : last-in new-lasts ≡ (λ s. while-waiting m (x .last s)) =

@@ -5,43 +5,22 @@ use mathlib.Core.Logic.{_⊎_, inl, inr}
 use mathlib.Core.Path.{_≡_, refl, sym, ap, _∙_}
 use Prim.Native.Nat.{ℕ, _<_}
 use native.Mathlib.Omega.{arith}
-use lib.Dec.{ltb}
 use lib.ListN.{length, set}
 use Rattle.std.specs.Options.{isSome}
-use Rattle.std.specs.declared.option.Option.{Option}
-use Rattle.std.specs.declared.option.Option.the-variants.{Some, None}
+use Rattle.std.specs.declared.option.Option.the-variants.{None}
 use Rattle.std.specs.declared.result.Result.the-variants.{Ok}
 use Rattle.std.proofs.shelf.Lists.{getD-set-same, getD-set-other}
-use Rattle.std.proofs.shelf.Tests.{cases-eq, eq-eqb, ne-eqb, ltb-true}
+use Rattle.std.proofs.shelf.Tests.{cases-eq, eq-eqb, ne-eqb}
 use Rattle.calls.specs.declared.call.Packet.{Packet}
-use Rattle.calls.specs.declared.refusal.Refusal.the-variants.{NoSuchSession, NotOpen, Full}
 use Rattle.waiting.specs.Queues.{first-of}
 use Rattle.ready.specs.Tags.{Tags, add-answer, added}
-use Rattle.sharing.specs.Rules.{room-beside, check}
-use Rattle.sharing.specs.Meanings.{Session, Meaning, waiting-in, all-waiting, after-enter}
+use Rattle.sharing.specs.Meanings.{Meaning, waiting-in, after-enter}
 use Rattle.sharing.specs.Clocked.{with-mark}
 use Rattle.sessions.specs.Verdicts.{settled, why-put}
-use Rattle.sessions.proofs.Keeping.{passed}
+use Rattle.sessions.proofs.Using.{Puttable, put-parts}
 use Rattle.self_clocked.specs.Exact.{first-marks, entered-at}
 use Rattle.self_clocked.specs.States.{last-in}
 use Rattle.self_clocked.proofs.Keeps.{first-added, first-ready, later-ready}
-
--- a packet that may wait has an open session
-pub record Open-session (m : Meaning) (s : ℕ) : Type 0 where
-  pub number : s < 64
-  pub session : Session
-  pub is-open : m .session s ≡ Some session
-
-pub put-open : (m : Meaning) (s : ℕ) → why-put m s ≡ None → Open-session m s
-put-open m s none =
-    let number = passed (ltb s 64) NoSuchSession (check (isSome (m .session s)) NotOpen (check (ltb 0 (room-beside (all-waiting m))) Full None)) none in
-    let opened = passed (isSome (m .session s)) NotOpen (check (ltb 0 (room-beside (all-waiting m))) Full None) (number .1) in
-    let found = some-of (m .session s) (opened .0) in
-    record { number = ltb-true s 64 (number .0); session = found .0; is-open = found .1 }
-  where
-    some-of : (o : Option Session) → isSome o ≡ true → (t : Session) × (o ≡ Some t)
-    some-of None e = let z : _≡_ {A = ℕ} 0 1 = cc in let no : ⊥ = omega arith in absurd no
-    some-of (Some t) e = (t, refl)
 
 last-set : (lasts : List ℕ) (s mark : ℕ) → s < length lasts → last-in (set lasts s mark) ≡ with-mark (last-in lasts) s mark
 last-set lasts s mark inside = λ i n. at-session n (cases-eq n s) i
@@ -60,19 +39,17 @@ module _ (m y : Meaning) (s : ℕ) (p : Packet) (put : y ≡ settled (why-put m 
       record { meaning = y; clock = clock; last = last-in (set lasts s (p .mark)) } ≡
       entered-at (record { meaning = m; clock = clock; last = last-in lasts }) s p
   entered-state clock lasts long none =
-      let open-now = put-open m s none in
-      let inside : s < length lasts = omega (arith, open-now .number) in
+      let inside : s < length lasts = omega (arith, put-parts m s none .session) in
       λ i. record { meaning = put-is none i; clock = clock; last = last-set lasts s (p .mark) inside i }
 
   -- a packet of the session waited
   pub entered-later : (tags : Tags) → isSome (first-of (waiting-in m s)) ≡ true → tags ≡ first-marks m → why-put m s ≡ None → tags ≡ first-marks y
   entered-later tags some ready none =
-      let open-now = put-open m s none in
-      later (waiting-in m s) refl some open-now ∙ ap first-marks (sym (put-is none))
+      later (waiting-in m s) refl some (put-parts m s none) ∙ ap first-marks (sym (put-is none))
     where
-      later : (ps : List Packet) → waiting-in m s ≡ ps → isSome (first-of ps) ≡ true → Open-session m s → tags ≡ first-marks (after-enter m s p)
+      later : (ps : List Packet) → waiting-in m s ≡ ps → isSome (first-of ps) ≡ true → Puttable m s → tags ≡ first-marks (after-enter m s p)
       later [] is e o = let z : _≡_ {A = ℕ} 0 1 = cc in let no : ⊥ = omega arith in absurd no
-      later (q ∷ qs) is e o = later-ready tags m s p (o .session) (o .number) (o .is-open) ready q qs is
+      later (q ∷ qs) is e o = later-ready tags m s p (o .session) (o .is-open) ready q qs is
 
   no-first : (ps : List Packet) → isSome (first-of ps) ≡ false → ps ≡ []
   no-first [] e = refl
@@ -81,11 +58,11 @@ module _ (m y : Meaning) (s : ℕ) (p : Packet) (put : y ≡ settled (why-put m 
   -- none did
   pub entered-answer : (tags : Tags) → isSome (first-of (waiting-in m s)) ≡ false → tags ≡ first-marks m → why-put m s ≡ None → add-answer tags s ≡ Ok tt
   entered-answer tags first ready none =
-      let o = put-open m s none in
-      first-added tags m s p (o .session) (o .number) (o .is-open) ready (no-first (waiting-in m s) first)
+      let o = put-parts m s none in
+      first-added tags m s p (o .session) (o .is-open) ready (no-first (waiting-in m s) first)
 
   pub entered-first : (tags : Tags) → isSome (first-of (waiting-in m s)) ≡ false → tags ≡ first-marks m → why-put m s ≡ None →
       added tags (p .mark) s ≡ first-marks y
   entered-first tags first ready none =
-      let o = put-open m s none in
-      first-ready tags m s p (o .session) (o .number) (o .is-open) ready (no-first (waiting-in m s) first) ∙ ap first-marks (sym (put-is none))
+      let o = put-parts m s none in
+      first-ready tags m s p (o .session) (o .is-open) ready (no-first (waiting-in m s) first) ∙ ap first-marks (sym (put-is none))

@@ -1,25 +1,20 @@
 -- The marks of the first waiting packets, and what each call makes of them.
-use mathlib.Core.Bool.{Bool, true, false, cond}
 use mathlib.Core.List.{List, [], _∷_, map}
 use mathlib.Core.Logic.{_⊎_, inl, inr}
 use mathlib.Core.Path.{_≡_, refl, sym, ap, _∙_}
 use Prim.Native.Nat.{ℕ, _<_}
 use native.Mathlib.Omega.{arith}
-use lib.Dec.{eqb}
 use lib.ListN.{length, set}
 use Rattle.std.specs.Iters.{counting}
-use Rattle.std.specs.declared.option.Option.{Option}
 use Rattle.std.specs.declared.option.Option.the-variants.{Some, None}
 use Rattle.std.proofs.shelf.Counted.{fill-by-all, length-map-counting, getD-map-counting}
 use Rattle.std.proofs.shelf.Lists.{getD-set-same, getD-set-other, length-set}
-use Rattle.std.proofs.shelf.Tests.{cases-eq, eq-eqb, ne-eqb}
+use Rattle.std.proofs.shelf.Tests.{cases-eq}
 use Rattle.calls.specs.declared.call.Packet.{Packet}
-use Rattle.calls.specs.declared.call.Service.{Service}
 use Rattle.ready.specs.Order.{Entry}
 use Rattle.ready.specs.Tags.{Tags, tag-of, least-of}
 use Rattle.ready.proofs.Leasts.{none-some, same-some, least-tag, least-within}
-use Rattle.sharing.specs.Meanings.{Session, Meaning, waiting-of, waiting-in, with-session, after-first}
-use Rattle.sharing.proofs.Pending.{by-session}
+use Rattle.sharing.specs.Meanings.{Meaning, waiting-in, after-first}
 use Rattle.self_clocked.specs.Exact.{first-mark, first-marks, with-first, first-with, next}
 
 -- ---- as a list
@@ -40,43 +35,32 @@ pub first-marks-equal : (m y : Meaning) → ((s : ℕ) → waiting-in y s ≡ wa
 unfolding first-marks
 first-marks-equal m y same = λ i. map (λ s. first-mark (same s i)) (counting 0 64)
 
--- ---- where one session's packets change
+-- ---- where the packets of one session change
 
--- y has the packets of m, but for those of session n
-abbrev pub Only : ℕ → List Packet → Meaning → Meaning → Type 0
-Only n packets m y = (s : ℕ) → waiting-in y s ≡ cond (eqb n s) packets (waiting-in m s)
+module _ (m y : Meaning) (n : ℕ) (there : (k : ℕ) → (k ≡ n → ⊥) → waiting-in y k ≡ waiting-in m k) where
+  pub first-marks-set : n < 64 → first-marks y ≡ set (first-marks m) n (first-mark (waiting-in y n))
+  first-marks-set low =
+      let mark = first-mark (waiting-in y n) in
+      sym
+      (first-marks-from y (set (first-marks m) n mark) (length-set (first-marks m) n mark ∙ first-marks-length m)
+      (λ s l. at-session s l (cases-eq s n)))
+    where
+      at-session : (s : ℕ) → s < 64 → (s ≡ n) ⊎ (s ≡ n → ⊥) → tag-of (set (first-marks m) n (first-mark (waiting-in y n))) s ≡ first-mark (waiting-in y s)
+      at-session s l (inl e) =
+          let inside : n < length (first-marks m) = omega (arith, first-marks-length m) in
+          ap (tag-of (set (first-marks m) n (first-mark (waiting-in y n)))) e ∙ getD-set-same (first-marks m) n (first-mark (waiting-in y n)) None inside ∙
+          ap (λ k. first-mark (waiting-in y k)) (sym e)
+      at-session s l (inr ne) =
+          getD-set-other (first-marks m) n s (first-mark (waiting-in y n)) None ne ∙ first-marks-at m s l ∙ ap first-mark (sym (there s ne))
 
-pub only-with : (m : Meaning) (n : ℕ) (new : Option Session) (service : Option Service) → Only n (waiting-of new) m (with-session m n new service)
-only-with m n new service s = at-test (eqb n s)
-  where
-    at-test : (b : Bool) → waiting-of (cond b new (m .session s)) ≡ cond b (waiting-of new) (waiting-in m s)
-    at-test true = refl
-    at-test false = refl
-
-pub first-marks-only : (m y : Meaning) (n : ℕ) (packets : List Packet) → n < 64 → Only n packets m y → first-marks y ≡ set (first-marks m) n (first-mark packets)
-first-marks-only m y n packets low only =
-    sym
-    (first-marks-from y (set (first-marks m) n (first-mark packets)) (length-set (first-marks m) n (first-mark packets) ∙ first-marks-length m)
-    (λ s l. at-place s l (cases-eq s n) ∙ sym (ap first-mark (only s))))
-  where
-    at-place : (s : ℕ) → s < 64 → (s ≡ n) ⊎ (s ≡ n → ⊥) →
-        tag-of (set (first-marks m) n (first-mark packets)) s ≡ first-mark (cond (eqb n s) packets (waiting-in m s))
-    at-place s l (inl e) =
-        let inside : n < length (first-marks m) = omega (arith, first-marks-length m) in
-        ap (tag-of (set (first-marks m) n (first-mark packets))) e ∙ getD-set-same (first-marks m) n (first-mark packets) None inside ∙
-        ap (λ b. first-mark (cond b packets (waiting-in m s))) (sym (eq-eqb n s (sym e)))
-    at-place s l (inr ne) =
-        getD-set-other (first-marks m) n s (first-mark packets) None ne ∙ first-marks-at m s l ∙
-        ap (λ b. first-mark (cond b packets (waiting-in m s))) (sym (ne-eqb n s (λ e. ne (sym e))))
-
--- the first marks are the same where the first packet is
-pub first-marks-same : (m y : Meaning) (n : ℕ) (packets : List Packet) → Only n packets m y → first-mark packets ≡ first-mark (waiting-in m n) →
-    first-marks y ≡ first-marks m
-first-marks-same m y n packets only same =
-    first-marks-from m (first-marks y) (first-marks-length y)
-    (λ s l.
-    first-marks-at y s l ∙ ap first-mark (only s) ∙
-    by-session (λ k b. first-mark (cond b packets (waiting-in m k)) ≡ first-mark (waiting-in m k)) n same (λ k. refl) s)
+  -- the first marks are the same where the first packet is
+  pub first-marks-same : first-mark (waiting-in y n) ≡ first-mark (waiting-in m n) → first-marks y ≡ first-marks m
+  first-marks-same same =
+      first-marks-from m (first-marks y) (first-marks-length y) (λ s l. first-marks-at y s l ∙ at-session s (cases-eq s n))
+    where
+      at-session : (s : ℕ) → (s ≡ n) ⊎ (s ≡ n → ⊥) → first-mark (waiting-in y s) ≡ first-mark (waiting-in m s)
+      at-session s (inl e) = ap (λ k. first-mark (waiting-in y k)) e ∙ same ∙ ap (λ k. first-mark (waiting-in m k)) (sym e)
+      at-session s (inr ne) = ap first-mark (there s ne)
 
 -- ---- what the next packet is
 

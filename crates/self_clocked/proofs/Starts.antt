@@ -20,8 +20,8 @@ use Rattle.ready.proofs.Leasts.{none-some, same-some}
 use Rattle.sharing.specs.Meanings.{Meaning, waiting-in, after-first, after-start}
 use Rattle.sharing.specs.Clocked.{Clocked}
 use Rattle.sessions.specs.Verdicts.{taken, take-answer}
-use Rattle.self_clocked.specs.Exact.{first-mark, first-marks, with-first, started-at, renewed, renew-answer, Due}
-use Rattle.self_clocked.proofs.Keeps.{none-left, next-added, next-ready}
+use Rattle.self_clocked.specs.Exact.{first-mark, first-marks, with-first, started-at, renewed, Due}
+use Rattle.self_clocked.proofs.Keeps.{none-left, next-ready}
 
 -- the packet that is due, which is the first of its session
 pub record Found (m : Meaning) (mark s : ℕ) (service : Service) : Type 0 where
@@ -63,15 +63,11 @@ module _ (tags : Tags) (m : Meaning) (mark s : ℕ) (due : Due tags m mark s) wh
     after-is : y ≡ after-start m s (service .packet)
     after-is = moved ∙ ap (λ n. after-start m n (service .packet)) (due-found service took .session-is)
 
-    pub started-answer : (next : Option Packet) → renew-answer tags next s ≡ Ok tt
-    started-answer None = refl
-    started-answer (Some q) = next-added (first-marks m) tags m s (service .packet) (due .session) refl (due .others)
-
     pub started-ready : (next : Option Packet) (left : Tags) → next ≡ first-of (waiting-in y s) → left ≡ renewed tags next s → left ≡ first-marks y
     started-ready next left is-next is =
         is ∙ ap (λ o. renewed tags o s) (is-next ∙ ap (λ (z : Meaning). first-of (waiting-in z s)) after-is) ∙
         go (waiting-in (after-start m s (service .packet)) s) refl ∙ ap first-marks (sym after-is)
       where
         go : (ps : List Packet) → waiting-in (after-start m s (service .packet)) s ≡ ps → renewed tags (first-of ps) s ≡ first-marks (after-start m s (service .packet))
-        go [] none = none-left (first-marks m) tags m s (service .packet) (due .session) refl (due .others) none
-        go (q ∷ qs) some = next-ready (first-marks m) tags m s (service .packet) (due .session) refl (due .others) q qs some
+        go [] none = none-left tags m s (service .packet) (due .session) (due .others) none
+        go (q ∷ qs) some = next-ready tags m s (service .packet) (due .session) (due .others) q qs some

@@ -22,7 +22,7 @@ use Rattle.ready.specs.Order.{Entry, At-most}
 use Rattle.ready.specs.Tags.{tag-of, least-of}
 use Rattle.ready.proofs.Leasts.{is-least-from}
 use Rattle.sharing.specs.Rules.{finish-refusal}
-use Rattle.sharing.specs.Meanings.{Session, Meaning, waiting-of, waiting-in, all-waiting, after-first, General}
+use Rattle.sharing.specs.Meanings.{Meaning, waiting-in, all-waiting, after-first, General}
 use Rattle.sharing.specs.Meanings as step
 use Rattle.sharing.specs.Clocked.{Clocked, Marks, Clocked-step}
 use Rattle.sharing.specs.Clocked as marks
@@ -137,21 +137,14 @@ exact-general x y call a e =
 
 -- ---- the marks
 
-module _ (x : Clocked) (open-below : (s : ℕ) (t : Session) → x .meaning .session s ≡ Some t → s < 64) where
-  some-below : (s : ℕ) (q : Packet) (qs : List Packet) → waiting-in (x .meaning) s ≡ q ∷ qs → s < 64
-  some-below s q qs = go (x .meaning .session s) refl
-    where
-      go : (o : Option Session) → x .meaning .session s ≡ o → waiting-of o ≡ q ∷ qs → s < 64
-      go None is has = let z : _≡_ {A = ℕ} 0 1 = cc in let no : ⊥ = omega arith in absurd no
-      go (Some t) is has = open-below s t is
-
+module _ (x : Clocked) (waits-below : (s : ℕ) (q : Packet) (qs : List Packet) → waiting-in (x .meaning) s ≡ q ∷ qs → s < 64) where
   accepted-marks : (call : Call) → refusal-of x call ≡ None → Marks x (accepted-after x call) call (accepted-answer x call)
   accepted-marks (Open s weight limit) none = marks.opens (record { clock = refl; last = refl })
   accepted-marks (Enter s length ticket) none = marks.enters (record { mark-is = refl; clock = refl; last = refl })
   accepted-marks Start none =
       let n = next-to-start x none in
       subst (λ (o : Option Service). Marks x (started-at x o) Start (started-with o)) (sym (n .is))
-      (marks.starts (record { smallest = λ s q qs has. n .smallest s q qs (some-below s q qs has) has; clock = refl; last = refl }))
+      (marks.starts (record { smallest = λ s q qs has. n .smallest s q qs (waits-below s q qs has) has; clock = refl; last = refl }))
   accepted-marks Finish none =
       let n = in-service-to-finish x none in
       subst (λ (o : Option Service). Marks x (finished-at x o) Finish (finished-with o)) (sym (n .1)) (marks.finishes (record { clock = refl; last = refl }))

@@ -12,7 +12,7 @@ const CEILING: u64 = 9_223_372_036_854_775_807;
 // No packet is longer.
 const LONGEST: u64 = 65_535;
 
-// The mark that the others of a session count from: its last mark or the clock, whichever is larger.
+// What a mark counts from: the last mark of the session or the clock, whichever is larger.
 fn base(last: u64, clock: u64) -> u64
     ensures { λ r. ⌜ r ≡ max last clock ⌝ }
 {
