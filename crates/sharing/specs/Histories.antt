@@ -121,10 +121,6 @@ abbrev pub weight-in : Option Terms → ℕ
 weight-in None = 0
 weight-in (Some terms) = terms .weight
 
-abbrev pub limit-in : Option Terms → ℕ
-limit-in None = 0
-limit-in (Some terms) = terms .limit
-
 -- the most that a packet of the session is charged: the charge of its limit
 abbrev pub most-in : Option Terms → ℕ
 most-in None = 0
@@ -133,9 +129,6 @@ most-in (Some terms) = charge (terms .limit)
 -- each is 0 for a session that was never opened
 abbrev pub weight-of : ℕ → History → ℕ
 weight-of s h = weight-in (terms-of s h)
-
-abbrev pub limit-of : ℕ → History → ℕ
-limit-of s h = limit-in (terms-of s h)
 
 abbrev pub most-of : ℕ → History → ℕ
 most-of s h = most-in (terms-of s h)
