@@ -12,9 +12,9 @@ import re
 import sys
 
 TOKEN = r"[^\s(){};,.«»\"]+"
-DEFINES = re.compile(r"^((?:unfoldable |abbrev |pub |data |record |mutual )*)([^\s:({]+)(\s+[({].*?)?\s+:\s+(.*)$")
-FIELD = re.compile(r"^  (pub )?([^\s:({|]+) : ")
-NOT_NAMES = re.compile(r"^(use|pub use|mod|pub mod|--|open|unfolding|let|where|in)\b")
+DEFINES = re.compile(r"^((?:unfoldable |abbrev |pub |data |record |mutual )*)([^\s:({]+)(\s+[({].*?)?\s+:(?:\s+(.*))?$")
+FIELD = re.compile(r"^ +(?:(?:abbrev|unfoldable) )?(pub )?([^\s:({|]+) :(?: |$)")
+NOT_NAMES = re.compile(r"^(use|pub use|mod|pub mod|--.*|open|unfolding|let|where|in)(?=\s|$)")
 
 
 def antt_files():
@@ -55,7 +55,7 @@ def defined():
                 continue
             m = DEFINES.match(line)
             if m and "=" not in (m.group(3) or ""):
-                if re.match(r"(goal|Goals|Given)\.", m.group(4)):
+                if re.match(r"(goal|Goals|Given)\.", m.group(4) or ""):
                     continue
                 kind = m.group(1)
                 type_valued = "record" in kind or "data" in kind or is_type(signature(lines, i))

@@ -26,10 +26,10 @@ module _ (n s : ℕ) where
   times_cons arrivals = sum_by-cons (λ k. cond (k == s) 1 0) n arrivals
 
 -- a packet enters
-pub enter-lists :
+pub enter_lists :
     (m : Meaning) (arrivals : List ℕ) (n : ℕ) (packet : Packet) → is_some (m.session n) ≡ true → ListsAll m arrivals →
     ListsAll (after_enter m n packet) (arrivals ++ n ∷ [])
-enter-lists m arrivals n packet opened all s =
+enter_lists m arrivals n packet opened all s =
     ⊎_elim
     (λ (e : s ≡ n).
     subst (λ k. times k (arrivals ++ n ∷ []) ≡ length (waiting_in (after_enter m n packet) k)) (sym e)
@@ -46,10 +46,10 @@ enter-lists m arrivals n packet opened all s =
     (cases_eq s n)
 
 -- the first arrival starts
-pub start-lists :
+pub start_lists :
     (m : Meaning) (n : ℕ) (later : List ℕ) (packet first : Packet) (rest : List Packet) → waiting_in m n ≡ first ∷ rest → ListsAll m (n ∷ later) →
     ListsAll (after_start m n packet) later
-start-lists m n later packet first rest is all s =
+start_lists m n later packet first rest is all s =
     ⊎_elim
     (λ (e : s ≡ n).
     subst (λ k. times k later ≡ length (waiting_in (after_start m n packet) k)) (sym e)

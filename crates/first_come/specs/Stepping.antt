@@ -15,7 +15,7 @@ use Rattle.sharing.specs.Meanings.{Meaning, nothing_open, waiting_in, all_waitin
 use Rattle.sessions.specs.declared.state.Sessions.{Sessions}
 use Rattle.sessions.specs.Meanings.{meaning_of}
 use Rattle.sessions.specs.Verdicts.{settled, why_open, after_served, why_put, why_start, length_answer, take_answer, after_take}
-use Rattle.sessions.proofs.Using.{accepted, enterable, enter-by-room-and-reach, open_in_order, same_all_waiting, settled_open_waiting, served_waiting, enter_all_waiting, start-all-waiting, puttable, startable, takeable, nothing_waits, Puttable, put_parts, waits_below_64}
+use Rattle.sessions.proofs.Using.{accepted, enterable, enter_by_room_and_reach, open_in_order, same_all_waiting, settled_open_waiting, served_waiting, enter_all_waiting, start_all_waiting, puttable, startable, takeable, nothing_waits, Puttable, put_parts, waits_below_64}
 use Rattle.sessions.proofs.Generals.{Chosen}
 use Rattle.first_come.specs.declared.ring.Ring.{Ring}
 use Rattle.first_come.specs.declared.line.FirstCome.{FirstCome}
@@ -25,8 +25,8 @@ use Rattle.first_come.specs.Invariants.{ListsAll, arrivals_in, ArrivalsListed}
 use Rattle.first_come.specs.Models.{Model, new_model, appended, why, room_in, reach_in, if_startable, take_earliest, start_answer, without_earliest, arrivals_after}
 use Rattle.first_come.specs.Models as Models
 use Rattle.first_come.specs.States.{model_of}
-use Rattle.first_come.specs.Entries.{entries-append}
-use Rattle.first_come.specs.Listing.{enter-lists, start-lists, earliest_waits}
+use Rattle.first_come.specs.Entries.{entries_append}
+use Rattle.first_come.specs.Listing.{enter_lists, start_lists, earliest_waits}
 
 -- the ghost fields, one within the other
 abbrev pub Ghosts : Sessions → Ring → Type 0
@@ -60,28 +60,28 @@ module _ (x : FirstCome) (after : Sessions) (same : (k : ℕ) → waiting_in (me
   same_keeps =
       (x.places, (x.head, (λ s. ap (count_by (λ k. nat_eq k s)) same_arrivals ∙ x.listed s ∙ sym (ap length (same s)), tt)))
 
-pub open-leaves :
+pub open_leaves :
     (x : FirstCome) (after : Sessions) (s weight limit : ℕ) →
     meaning_of after ≡ settled (why_open (meaning_of x.sessions) s weight limit) (meaning_of x.sessions) (after_open (meaning_of x.sessions) s weight limit) →
     (k : ℕ) → waiting_in (meaning_of after) k ≡ waiting_in (meaning_of x.sessions) k
-open-leaves x after s weight limit became k = ap (λ m. waiting_in m k) became ∙ settled_open_waiting (meaning_of x.sessions) s weight limit k
+open_leaves x after s weight limit became k = ap (λ m. waiting_in m k) became ∙ settled_open_waiting (meaning_of x.sessions) s weight limit k
 
-pub finish-leaves :
+pub finish_leaves :
     (x : FirstCome) (after : Sessions) (r : Result Service Refusal) → meaning_of after ≡ after_served (meaning_of x.sessions) r →
     (k : ℕ) → waiting_in (meaning_of after) k ≡ waiting_in (meaning_of x.sessions) k
-finish-leaves x after r became k = ap (λ m. waiting_in m k) became ∙ served_waiting (meaning_of x.sessions) r k
+finish_leaves x after r became k = ap (λ m. waiting_in m k) became ∙ served_waiting (meaning_of x.sessions) r k
 
 -- ---- enter
 
-pub enter-passes :
+pub enter_passes :
     (x : FirstCome) (s n : ℕ) (terms : Terms) → Ok terms ≡ length_answer (meaning_of x.sessions) s n → all_waiting (meaning_of x.sessions) < 256 →
     why (meaning_of x.sessions) (Enter s n 0) ≡ None
-enter-passes x s n terms is room =
+enter_passes x s n terms is room =
     let m = meaning_of x.sessions in
     let can = enterable m s n 0 terms is in
     let order = open_in_order x.sessions s can.account can.is_open in
     let left = check (nat_le n 65535) OutOfReach None in
-    enter-by-room-and-reach m s n 0 (room_in m) reach_in terms is
+    enter_by_room_and_reach m s n 0 (room_in m) reach_in terms is
     ∙ cond-true (nat_lt 0 (room_beside (all_waiting m))) left (Some Full) (lt-ltb 0 (room_beside (all_waiting m)) (omega arith))
     ∙ cond-true (nat_le n 65535) None (Some OutOfReach) (le-leb n 65535 (omega arith))
 
@@ -110,7 +110,7 @@ module _ (x : FirstCome) (s : ℕ) (packet : Packet) (after : Sessions) (count :
   more_arrivals =
       ap (λ r. entries_of r (all_waiting (meaning_of after))) is
       ∙ ap (entries_of (rings.appended x.ring count s)) one_more
-      ∙ entries-append x.ring.numbers s ((x.ring.head + count) % 256) x.places (all_waiting m) x.ring.head x.head can.room
+      ∙ entries_append x.ring.numbers s ((x.ring.head + count) % 256) x.places (all_waiting m) x.ring.head x.head can.room
       (ap (λ n. (x.ring.head + n) % 256) counted)
 
   pub append_keeps : Ghosts after ring
@@ -120,7 +120,7 @@ module _ (x : FirstCome) (s : ℕ) (packet : Packet) (after : Sessions) (count :
       subst (λ r. r.head < 256) (sym is) x.head,
       (
         λ k. ap (count_by (λ n. nat_eq n k)) more_arrivals
-            ∙ enter-lists m (arrivals_in x.sessions x.ring) s packet can.is_open x.listed k
+            ∙ enter_lists m (arrivals_in x.sessions x.ring) s packet can.is_open x.listed k
             ∙ sym (ap (λ z. length (waiting_in z k)) entered),
         tt,
       ),
@@ -156,12 +156,12 @@ module _ (x : FirstCome) where
     later : List ℕ
     later = entries x.ring.numbers ((x.ring.head + 1) % 256) left.0
 
-    arrivals-are : arrived ≡ earliest ∷ later
+    arrivals_are : arrived ≡ earliest ∷ later
     unfolding later
-    arrivals-are = ap (entries_of x.ring) left.1
+    arrivals_are = ap (entries_of x.ring) left.1
 
     lists : ListsAll before (earliest ∷ later)
-    lists k = ap (count_by (λ n. nat_eq n k)) (sym arrivals-are) ∙ x.listed k
+    lists k = ap (count_by (λ n. nat_eq n k)) (sym arrivals_are) ∙ x.listed k
 
     waits : (first : Packet) × (rest : List Packet) × (waiting_in before earliest ≡ first ∷ rest)
     waits = earliest_waits before earliest later lists
@@ -175,18 +175,18 @@ module _ (x : FirstCome) where
         takeable before earliest waits.0 waits.1 (startable before ready).0 (waits_below_64 x.sessions earliest waits.0 waits.1 waits.2) waits.2
 
     -- so the take is not refused
-    pub never-refused : (s : ℕ) (e : Refusal) → s ≡ slice_index x.ring.numbers x.ring.head → Err e ≢ take_answer (meaning_of x.sessions) s
-    never-refused s e is refused =
+    pub never_refused : (s : ℕ) (e : Refusal) → s ≡ slice_index x.ring.numbers x.ring.head → Err e ≢ take_answer (meaning_of x.sessions) s
+    never_refused s e is refused =
         let ok : take_answer before s ≡ Ok taken = ap (take_answer before) is ∙ takes in
         let never : ◌≡◌ {A = ℕ} 0 1 = cc in omega arith
 
-    pub start-takes : start_answer (model_of x) ≡ Ok taken
-    start-takes =
-        ap (λ w. if_startable w (take_earliest before arrived)) ready ∙ ap (take_earliest before) arrivals-are ∙ takes
+    pub start_takes : start_answer (model_of x) ≡ Ok taken
+    start_takes =
+        ap (λ w. if_startable w (take_earliest before arrived)) ready ∙ ap (take_earliest before) arrivals_are ∙ takes
 
-    pub start-chosen : Chosen (meaning_of x.sessions) (start_answer (model_of x))
+    pub start_chosen : Chosen (meaning_of x.sessions) (start_answer (model_of x))
     unfolding taken
-    start-chosen = subst (Chosen before) (sym start-takes) (ready, (waits.1, waits.2))
+    start_chosen = subst (Chosen before) (sym start_takes) (ready, (waits.1, waits.2))
 
     module _ (after : Sessions) (ring : Ring) (r : Result Service Refusal)
         (answer : r ≡ take_answer (meaning_of x.sessions) (slice_index x.ring.numbers x.ring.head))
@@ -198,32 +198,32 @@ module _ (x : FirstCome) where
       one_less : all_waiting (meaning_of after) ≡ left.0
       one_less =
           let fell : all_waiting (after_start before earliest waits.0) + 1 ≡ all_waiting before =
-          start-all-waiting before earliest waits.0 waits.0 waits.1 (waits_below_64 x.sessions earliest waits.0 waits.1 waits.2) waits.2 in
+          start_all_waiting before earliest waits.0 waits.0 waits.1 (waits_below_64 x.sessions earliest waits.0 waits.1 waits.2) waits.2 in
           let to : all_waiting (meaning_of after) ≡ all_waiting (after_start before earliest waits.0) = ap all_waiting started in
           let was : all_waiting before ≡ suc left.0 = left.1 in
           omega arith
 
-      less-arrivals : arrivals_in after ring ≡ later
+      less_arrivals : arrivals_in after ring ≡ later
       unfolding later
-      less-arrivals = ap (λ z. entries_of z (all_waiting (meaning_of after))) is ∙ ap (entries_of (advanced x.ring)) one_less
+      less_arrivals = ap (λ z. entries_of z (all_waiting (meaning_of after))) is ∙ ap (entries_of (advanced x.ring)) one_less
 
-      pub start-keeps : Ghosts after ring
-      start-keeps = (
+      pub start_keeps : Ghosts after ring
+      start_keeps = (
         ap (λ z. length z.numbers) is ∙ x.places,
         (
           subst (λ z. z.head < 256) (sym is) (omega arith),
           (
-            λ k. ap (count_by (λ n. nat_eq n k)) less-arrivals
-                ∙ start-lists before earliest later waits.0 waits.0 waits.1 waits.2 lists k
+            λ k. ap (count_by (λ n. nat_eq n k)) less_arrivals
+                ∙ start_lists before earliest later waits.0 waits.0 waits.1 waits.2 lists k
                 ∙ sym (ap (λ z. length (waiting_in z k)) started),
             tt,
           ),
         ),
       )
 
-      pub start-model : ◌≡◌ {A = Model} (record { meaning = meaning_of after; arrivals = arrivals_in after ring }) (Models.after (model_of x) Start)
+      pub start_model : ◌≡◌ {A = Model} (record { meaning = meaning_of after; arrivals = arrivals_in after ring }) (Models.after (model_of x) Start)
       unfolding taken
-      start-model = λ i. record {
-        meaning = (became ∙ ap (after_take before) (answer ∙ takes ∙ sym start-takes)) i;
-        arrivals = (less-arrivals ∙ ap without_earliest (sym arrivals-are) ∙ ap (arrivals_after arrived) (sym start-takes)) i;
+      start_model = λ i. record {
+        meaning = (became ∙ ap (after_take before) (answer ∙ takes ∙ sym start_takes)) i;
+        arrivals = (less_arrivals ∙ ap without_earliest (sym arrivals_are) ∙ ap (arrivals_after arrived) (sym start_takes)) i;
       }

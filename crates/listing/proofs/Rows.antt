@@ -72,23 +72,23 @@ listed_none x trace before = record { text = []; wrote = wrote_none before 0; li
 module _ (x : Clocked) (trace before : List ℕ) (y : Clocked) (at : ℕ) (rest after : List ℕ) (end : ℕ) (so_far : Listed x trace before y at rest after end) where
   -- the line is the first of the rest
   module _ (line : List ℕ) (others : List (List ℕ)) (first : lines_of rest ≡ line ∷ others) where
-    pub listed-room : end + 96 ≤ 96 * length (lines_of trace)
-    listed-room = omega (arith, so_far.few, ap length first)
+    pub listed_room : end + 96 ≤ 96 * length (lines_of trace)
+    listed_room = omega (arith, so_far.few, ap length first)
 
     module _ (z : Clocked) (out : List ℕ) (place : ℕ) (wrote : Wrote after end (said_of y at (read_line line)) out place) (short : place ≤ end + 96)
         (to : z ≡ after_line y (read_line line)) (within : 96 * length (lines_of trace) ≤ length before) where
-      first-wrote : Wrote before 0 (so_far.text ++ said_of y at (read_line line)) out place
-      first-wrote = wrote_both (omega arith) so_far.wrote wrote
+      first_wrote : Wrote before 0 (so_far.text ++ said_of y at (read_line line)) out place
+      first_wrote = wrote_both (omega arith) so_far.wrote wrote
 
-      first-lines : told_on x (readings trace) ≡ (so_far.text ++ said_of y at (read_line line)) ++ told_on z (readings_from (next_at at) others)
-      first-lines =
+      first_lines : told_on x (readings trace) ≡ (so_far.text ++ said_of y at (read_line line)) ++ told_on z (readings_from (next_at at) others)
+      first_lines =
           so_far.lines ∙ ap (λ ls. so_far.text ++ told_on y (readings_from at ls)) first ∙
           ap (λ t. so_far.text ++ t) (told_first y at (read_line line) (readings_from (next_at at) others)) ∙
           sym (append_assoc so_far.text (said_of y at (read_line line)) (told_on (after_line y (read_line line)) (readings_from (next_at at) others))) ∙
           ap (λ v. (so_far.text ++ said_of y at (read_line line)) ++ told_on v (readings_from (next_at at) others)) (sym to)
 
-      first-calls : after_calls x (calls_of (readings trace)) ≡ after_calls z (calls_of (readings_from (next_at at) others))
-      first-calls =
+      first_calls : after_calls x (calls_of (readings trace)) ≡ after_calls z (calls_of (readings_from (next_at at) others))
+      first_calls =
           so_far.calls ∙ ap (λ ls. after_calls y (calls_of (readings_from at ls))) first ∙
           after_first_call y at (read_line line) (readings_from (next_at at) others) ∙
           ap (λ v. after_calls v (calls_of (readings_from (next_at at) others))) (sym to)
@@ -97,9 +97,9 @@ module _ (x : Clocked) (trace before : List ℕ) (y : Clocked) (at : ℕ) (rest 
       listed_more left next rest-is next_is =
           record {
             text = so_far.text ++ said_of y at (read_line line);
-            wrote = first-wrote;
-            lines = first-lines ∙ (λ i. (so_far.text ++ said_of y at (read_line line)) ++ told_on z (readings_from (sym next_is i) (rest-is i)));
-            calls = first-calls ∙ (λ i. after_calls z (calls_of (readings_from (sym next_is i) (rest-is i))));
+            wrote = first_wrote;
+            lines = first_lines ∙ (λ i. (so_far.text ++ said_of y at (read_line line)) ++ told_on z (readings_from (sym next_is i) (rest-is i)));
+            calls = first_calls ∙ (λ i. after_calls z (calls_of (readings_from (sym next_is i) (rest-is i))));
             few = omega (arith, so_far.few, ap length first, ap length rest-is);
           }
 
@@ -142,15 +142,15 @@ unended (c ∷ d ∷ cs) = unended (d ∷ cs)
 onto_same : (c d : ℕ) (ds : List ℕ) → length (ended (onto_first c (split 10 (d ∷ ds)))) ≡ length (ended (split 10 (d ∷ ds)))
 onto_same c d ds =
     cond_both (eqb d 10) ([] ∷ split 10 ds) (onto_first d (split 10 ds)) (λ parts. length (ended (onto_first c parts)) ≡ length (ended parts))
-    (λ is. behind (split 10 ds) (split_parts 10 ds)) (λ not. in-front (split 10 ds))
+    (λ is. behind (split 10 ds) (split_parts 10 ds)) (λ not. in_front (split 10 ds))
   where
     behind : (parts : List (List ℕ)) → SomeParts parts → length (ended (onto_first c ([] ∷ parts))) ≡ length (ended ([] ∷ parts))
     behind parts (some_parts part others) = refl
 
-    in-front : (parts : List (List ℕ)) → length (ended (onto_first c (onto_first d parts))) ≡ length (ended (onto_first d parts))
-    in-front [] = refl
-    in-front (part ∷ []) = refl
-    in-front (part ∷ next ∷ parts) = refl
+    in_front : (parts : List (List ℕ)) → length (ended (onto_first c (onto_first d parts))) ≡ length (ended (onto_first d parts))
+    in_front [] = refl
+    in_front (part ∷ []) = refl
+    in_front (part ∷ next ∷ parts) = refl
 
 lines_counted : (xs : List ℕ) → length (lines_of xs) ≡ ends_in xs + unended xs
 unfolding unended

@@ -50,7 +50,7 @@ module _ (trace out : List ℕ) where
     pub listed_answer : Ok end ≡ list_answer trace out
     listed_answer = ap Ok (wrote.place ∙ zero-add (length (listing trace))) ∙ ap (λ o. verdict o (length (listing trace))) (sym allowed)
 
-    pub listed-octets : after ≡ listed_over trace out
-    listed-octets =
+    pub listed_octets : after ≡ listed_over trace out
+    listed_octets =
         wrote.octets ∙ front out (listing trace) ∙
         ap (λ o. settled o out (listing trace ++ drop (length (listing trace)) out)) (sym allowed)

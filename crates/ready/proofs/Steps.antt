@@ -101,34 +101,34 @@ module _ (x : Heap) where
     add_ok = sym (add_answers held t s (place_is s p at).1 free)
 
     -- there is a place
-    pub len-free : x.len < 64
-    len-free = omega (arith, x.counted, length_tags front, count_free held s below free)
+    pub len_free : x.len < 64
+    len_free = omega (arith, x.counted, length_tags front, count_free held s below free)
 
     module _ (m : ℕ) (grown : List Entry) (more : m ≡ x.len + 1) (put : grown ≡ set x.entries x.len (t, s)) where
       abbrev longer : List Entry
       longer = take (m - 0) grown
 
-      longer-is : longer ≡ front ++ (t, s) ∷ []
-      longer-is = (λ i. take ((sub-zero m ∙ more) i) (put i)) ∙ take_more_set x.entries x.len (t, s) (omega (arith, x.room, len-free))
+      longer_is : longer ≡ front ++ (t, s) ∷ []
+      longer_is = (λ i. take ((sub-zero m ∙ more) i) (put i)) ∙ take_more_set x.entries x.len (t, s) (omega (arith, x.room, len_free))
 
-      longer-long : length longer ≡ m
-      longer-long = ap length longer-is ∙ length_push front (t, s) ∙ ap (λ (n : ℕ). n + 1) front_long ∙ sym more
+      longer_long : length longer ≡ m
+      longer_long = ap length longer_is ∙ length_push front (t, s) ∙ ap (λ (n : ℕ). n + 1) front_long ∙ sym more
 
-      longer-at : (k : ℕ) → k < x.len → entry_at longer k ≡ entry_at front k
-      longer-at k l = ap (λ (es : List Entry). entry_at es k) longer-is ∙ get_or_append_left front ((t, s) ∷ []) (0, 0) k (omega (arith, front_long))
+      longer_at : (k : ℕ) → k < x.len → entry_at longer k ≡ entry_at front k
+      longer_at k l = ap (λ (es : List Entry). entry_at es k) longer_is ∙ get_or_append_left front ((t, s) ∷ []) (0, 0) k (omega (arith, front_long))
 
-      pub add-ordered : HeapOrdered 1 (length longer - 1) longer
-      add-ordered = λ k a b.
-          let small : k < x.len = omega (arith, longer-long) in
+      pub add_ordered : HeapOrdered 1 (length longer - 1) longer
+      add_ordered = λ k a b.
+          let small : k < x.len = omega (arith, longer_long) in
           let was = x.ordered k a small in
-          cc (longer-at k small, longer-at ((k - 1) / 2) (omega arith))
+          cc (longer_at k small, longer_at ((k - 1) / 2) (omega arith))
 
-      pub add-after : (ys : List Entry) → length ys ≡ length longer → SameEntries longer ys → HeapOrdered 1 (length ys) ys → Put ys grown m (set x.present p true) (added held t s)
-      add-after ys long same ordered =
+      pub add_after : (ys : List Entry) → length ys ≡ length longer → SameEntries longer ys → HeapOrdered 1 (length ys) ys → Put ys grown m (set x.present p true) (added held t s)
+      add_after ys long same ordered =
           let room : length grown ≡ 64 = ap length put ∙ length-set x.entries x.len (t, s) ∙ x.room in
-          let once : EachOnce longer (set held s (Some t)) = subst (λ (es : List Entry). EachOnce es (set held s (Some t))) (sym longer-is) (once_added front held t s below free x.once) in
+          let once : EachOnce longer (set held s (Some t)) = subst (λ (es : List Entry). EachOnce es (set held s (Some t))) (sym longer_is) (once_added front held t s below free x.once) in
           subst (Put ys grown m (set x.present p true)) (sym (add_leaves held t s (place_is s p at).1 free))
-          (put_kept ys longer grown m (set x.present p true) (set held s (Some t)) (long ∙ longer-long) room (length-set held s (Some t) ∙ length_tags front) same ordered once
+          (put_kept ys longer grown m (set x.present p true) (set held s (Some t)) (long ∙ longer_long) room (length-set held s (Some t) ∙ length_tags front) same ordered once
           (omega (arith, count_added held t s below free, x.counted))
           ((λ i. set (x.marked i) ((place_is s p at).0 i) true) ∙ sym (map-set is_some held s (Some t))))
 
@@ -137,52 +137,52 @@ module _ (x : Heap) where
     taken : tag_of held s ≡ Some t
     taken = least_tag held (t, s) is
 
-    is-first : first_of front ≡ Some (t, s)
-    is-first = first_is_least ∙ sym is
+    is_first : first_of front ≡ Some (t, s)
+    is_first = first_is_least ∙ sym is
 
     pub some : 0 < x.len
-    some = omega (arith, first_long front (t, s) is-first, front_long)
+    some = omega (arith, first_long front (t, s) is_first, front_long)
 
-    pub taken-within : s < 64
-    taken-within = omega (arith, length_tags front, tag_within held s t taken)
+    pub taken_within : s < 64
+    taken_within = omega (arith, length_tags front, tag_within held s t taken)
 
     module _ (m : ℕ) (shrunk : List Entry) (fewer : m ≡ x.len - 1) (put : shrunk ≡ set x.entries 0 (entry_at x.entries (x.len - 1))) where
       abbrev shorter : List Entry
       shorter = take (m - 0) shrunk
 
-      shorter-is : shorter ≡ take (x.len - 1) (set x.entries 0 (entry_at x.entries (x.len - 1)))
-      shorter-is = λ i. take ((sub-zero m ∙ fewer) i) (put i)
+      shorter_is : shorter ≡ take (x.len - 1) (set x.entries 0 (entry_at x.entries (x.len - 1)))
+      shorter_is = λ i. take ((sub-zero m ∙ fewer) i) (put i)
 
       room : length shrunk ≡ 64
       room = ap length put ∙ length-set x.entries 0 (entry_at x.entries (x.len - 1)) ∙ x.room
 
-      shorter-long : length shorter ≡ m
-      shorter-long = ap (λ (n : ℕ). length (take n shrunk)) (sub-zero m) ∙ length-take-le m shrunk (omega (arith, room))
+      shorter_long : length shorter ≡ m
+      shorter_long = ap (λ (n : ℕ). length (take n shrunk)) (sub-zero m) ∙ length-take-le m shrunk (omega (arith, room))
 
-      shorter-at : (k : ℕ) → 0 < k → k < x.len - 1 → entry_at shorter k ≡ entry_at front k
-      shorter-at k a b =
-          ap (λ (es : List Entry). entry_at es k) shorter-is
+      shorter_at : (k : ℕ) → 0 < k → k < x.len - 1 → entry_at shorter k ≡ entry_at front k
+      shorter_at k a b =
+          ap (λ (es : List Entry). entry_at es k) shorter_is
           ∙ get_or-take (x.len - 1) (set x.entries 0 (entry_at x.entries (x.len - 1))) k (0, 0) (omega arith)
           ∙ get_or-set_other x.entries 0 k (entry_at x.entries (x.len - 1)) (0, 0) (omega arith)
           ∙ sym (get_or-take x.len x.entries k (0, 0) (omega arith))
 
-      pub drop-ordered : HeapOrdered 3 (length shorter) shorter
-      drop-ordered = λ k a b.
-          let small : k < x.len - 1 = omega (arith, shorter-long) in
+      pub drop_ordered : HeapOrdered 3 (length shorter) shorter
+      drop_ordered = λ k a b.
+          let small : k < x.len - 1 = omega (arith, shorter_long) in
           let was = x.ordered k (omega arith) (omega arith) in
-          cc (shorter-at k (omega arith) small, shorter-at ((k - 1) / 2) (omega arith) (omega arith))
+          cc (shorter_at k (omega arith) small, shorter_at ((k - 1) / 2) (omega arith) (omega arith))
 
       less : (u r : ℕ) → occurrences u r shorter + bit (is_entry u r (t, s)) ≡ occurrences u r front
       less u r =
           let f : Entry → ℕ = λ e. bit (is_entry u r e) in
-          let top : (t, s) ≡ entry_at x.entries 0 = sym (sym (get_or-take x.len x.entries 0 (0, 0) some) ∙ first_at front (t, s) is-first) in
-          (λ i. sum_by f (shorter-is i) + f (top i))
+          let top : (t, s) ≡ entry_at x.entries 0 = sym (sym (get_or-take x.len x.entries 0 (0, 0) some) ∙ first_at front (t, s) is_first) in
+          (λ i. sum_by f (shorter_is i) + f (top i))
           ∙ sum_dropped f x.entries (x.len - 1) (omega (arith, x.room, some))
           ∙ ap (λ (n : ℕ). sum_by f (take n x.entries)) (omega (arith, some))
 
-      pub drop-after : (ys : List Entry) → length ys ≡ length shorter → SameEntries shorter ys → HeapOrdered 1 (length ys) ys → Put ys shrunk m (set x.present s false) (set held s None)
-      drop-after ys long same ordered =
-          put_kept ys shorter shrunk m (set x.present s false) (set held s None) (long ∙ shorter-long) room (length-set held s None ∙ length_tags front) same ordered
+      pub drop_after : (ys : List Entry) → length ys ≡ length shorter → SameEntries shorter ys → HeapOrdered 1 (length ys) ys → Put ys shrunk m (set x.present s false) (set held s None)
+      drop_after ys long same ordered =
+          put_kept ys shorter shrunk m (set x.present s false) (set held s None) (long ∙ shorter_long) room (length-set held s None ∙ length_tags front) same ordered
           (once_dropped front shorter held (t, s) taken less x.once)
           (omega (arith, count_dropped held t s taken, x.counted))
           (ap (λ (ps : List Bool). set ps s false) x.marked ∙ sym (map-set is_some held s None))

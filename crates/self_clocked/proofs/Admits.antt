@@ -12,7 +12,7 @@ use Rattle.sharing.specs.Clocked.{Clocked}
 use Rattle.sharing.proofs.Pending.{terms_in}
 use Rattle.sharing.proofs.Reaches.{within_reach}
 use Rattle.sessions.specs.Verdicts.{verdict, length_answer}
-use Rattle.sessions.proofs.Using.{InOrder, enterable, enter-by-room-and-reach}
+use Rattle.sessions.proofs.Using.{InOrder, enterable, enter_by_room_and_reach}
 use Rattle.self_clocked.specs.Exact.{weight_at, room_of, reach_of, enter_answer}
 use Rattle.self_clocked.specs.Marks.{room_answer_at, under_ceiling, mark_answer, reach_answer_at}
 
@@ -41,7 +41,7 @@ module _ (x : Clocked) (s : ℕ) (orderly : (t : Session) → x.meaning.session 
       ap (λ b. verdict (check b OutOfReach None) mark) (sym (within_reach (max (x.last s) x.clock) (weight_at x s) n e.some short)) ∙
       sym
       (ap (λ r. verdict r mark)
-      (enter-by-room-and-reach x.meaning s n 0 (room_of x) (reach_of x) terms fits ∙
+      (enter_by_room_and_reach x.meaning s n 0 (room_of x) (reach_of x) terms fits ∙
       cond-true (ltb 0 (room_of x s)) (check (leb n (reach_of x s)) OutOfReach None) (Some Full) room.0))
     where
       under : (b : Bool) (mark : ℕ) → cond b (Ok mark) (Err OutOfReach) ≡ verdict (check b OutOfReach None) mark

@@ -14,12 +14,12 @@ use Rattle.self_clocked.specs.States.{last_in}
 use Rattle.self_clocked.specs.Keeps.{first_added, first_ready, later_ready}
 
 last_set : (lasts : List ℕ) (s mark : ℕ) → s < length lasts → last_in (set lasts s mark) ≡ with_mark (last_in lasts) s mark
-last_set lasts s mark inside = λ i n. at-session n (cases_eq n s) i
+last_set lasts s mark inside = λ i n. at_session n (cases_eq n s) i
   where
-    at-session : (n : ℕ) → (n ≡ s) ⊎ (n ≡ s → ⊥) → last_in (set lasts s mark) n ≡ with_mark (last_in lasts) s mark n
-    at-session n (inl e) =
+    at_session : (n : ℕ) → (n ≡ s) ⊎ (n ≡ s → ⊥) → last_in (set lasts s mark) n ≡ with_mark (last_in lasts) s mark n
+    at_session n (inl e) =
         ap (last_in (set lasts s mark)) e ∙ get_or-set_same lasts s mark 0 inside ∙ ap (λ b. cond b mark (last_in lasts n)) (sym (eq-eqb s n (sym e)))
-    at-session n (inr ne) = get_or-set_other lasts s n mark 0 ne ∙ ap (λ b. cond b mark (last_in lasts n)) (sym (ne_eqb s n (λ e. ne (sym e))))
+    at_session n (inr ne) = get_or-set_other lasts s n mark 0 ne ∙ ap (λ b. cond b mark (last_in lasts n)) (sym (ne_eqb s n (λ e. ne (sym e))))
 
 -- m is what the sessions meant, and y what they mean after the packet was put
 module _ (m y : Meaning) (s : ℕ) (p : Packet) (put : y ≡ settled (why_put m s) m (after_enter m s p)) where

@@ -10,7 +10,7 @@ use Rattle.sharing.specs.Rules.{check, start_refusal, finish_refusal}
 use Rattle.sharing.specs.Meanings.{Meaning, waiting_in, all_waiting, after_first, after_start, after_finish}
 use Rattle.sharing.specs.Clocked.{Clocked}
 use Rattle.sessions.specs.Verdicts.{settled, why_start, why_finish}
-use Rattle.sessions.proofs.Using.{same_all_waiting, finish_waiting, start-all-waiting, startable}
+use Rattle.sessions.proofs.Using.{same_all_waiting, finish_waiting, start_all_waiting, startable}
 use Rattle.self_clocked.specs.Exact.{refusal_of, next, started_with, finished_with, started_at, finished_at, accepted_answer, accepted_after, decided, answer_to, after}
 use Rattle.self_clocked.specs.Rows.{answers_to, after_calls}
 use Rattle.self_clocked.specs.Previews.{finishes_and_starts, started_by, started_in, start_order, StartsFollowTheOrder}
@@ -110,7 +110,7 @@ begins x why =
       leaves = ap (λ y. y.meaning) to;
       one_less =
           ap (λ y. all_waiting y.meaning + 1) to ∙
-          start-all-waiting x.meaning n.service.session n.service.packet n.service.packet (after_first (waiting_in x.meaning n.service.session))
+          start_all_waiting x.meaning n.service.session n.service.packet n.service.packet (after_first (waiting_in x.meaning n.service.session))
           n.below n.first;
     }
 

@@ -175,11 +175,11 @@ module _ (tickets scratch : List ℕ) (none : Ok (tt {0}) ≡ verdict (preview_r
 
   -- x is the line, and y the one that the preview ran
   module _ (x y : Clocked) (same : y.meaning ≡ x.meaning) where
-    pub previewed-count : (count : ℕ) → count ≡ all_waiting y.meaning → Ok count ≡ preview_answer x tickets scratch
-    previewed-count count is = ap Ok (is ∙ ap all_waiting same) ∙ ap (λ o. verdict o (all_waiting x.meaning)) (sym allowed)
+    pub previewed_count : (count : ℕ) → count ≡ all_waiting y.meaning → Ok count ≡ preview_answer x tickets scratch
+    previewed_count count is = ap Ok (is ∙ ap all_waiting same) ∙ ap (λ o. verdict o (all_waiting x.meaning)) (sym allowed)
 
-    pub previewed-tickets : (after : List ℕ) → after ≡ tickets_of (start_order y) ++ drop (all_waiting y.meaning) tickets → after ≡ tickets_after x tickets scratch
-    previewed-tickets after is =
+    pub previewed_tickets : (after : List ℕ) → after ≡ tickets_of (start_order y) ++ drop (all_waiting y.meaning) tickets → after ≡ tickets_after x tickets scratch
+    previewed_tickets after is =
         is ∙ (λ i. tickets_of (same_order y x same i) ++ drop (all_waiting (same i)) tickets) ∙
         ap (λ o. settled o tickets (tickets_of (start_order x) ++ drop (all_waiting x.meaning) tickets)) (sym allowed)
 

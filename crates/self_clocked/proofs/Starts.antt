@@ -44,9 +44,9 @@ module _ (tags : Tags) (m : Meaning) (mark s : ℕ) (due : Due tags m mark s) wh
 
   -- y is what the sessions mean after the packet was taken
   module _ (service : Service) (took : Ok service ≡ take_answer m s) (y : Meaning) (moved : y ≡ after_start m service.session service.packet) where
-    pub started-state : (clock : ℕ) (last : ℕ → ℕ) →
+    pub started_state : (clock : ℕ) (last : ℕ → ℕ) →
         record { meaning = y; clock = mark; last = last } ≡ started_at (record { meaning = m; clock = clock; last = last }) (with_first s (waiting_in m s))
-    started-state clock last =
+    started_state clock last =
         let found = due_found service took in
         let x : Clocked = record { meaning = m; clock = clock; last = last } in
         (λ i. record { meaning = moved i; clock = found.mark_is i; last = last }) ∙ ap (started_at x) (sym found.is_next)
@@ -54,8 +54,8 @@ module _ (tags : Tags) (m : Meaning) (mark s : ℕ) (due : Due tags m mark s) wh
     after_is : y ≡ after_start m s service.packet
     after_is = moved ∙ ap (λ n. after_start m n service.packet) (due_found service took).session_is
 
-    pub started-ready : (next : Option Packet) (left : Tags) → next ≡ first_of (waiting_in y s) → left ≡ renewed tags next s → left ≡ first_marks y
-    started-ready next left is_next is =
+    pub started_ready : (next : Option Packet) (left : Tags) → next ≡ first_of (waiting_in y s) → left ≡ renewed tags next s → left ≡ first_marks y
+    started_ready next left is_next is =
         is ∙ ap (λ o. renewed tags o s) (is_next ∙ ap (λ (z : Meaning). first_of (waiting_in z s)) after_is) ∙
         go (waiting_in (after_start m s service.packet) s) refl ∙ ap first_marks (sym after_is)
       where

@@ -11,7 +11,7 @@ use Rattle.sharing.proofs.Runs.{led_along}
 use Rattle.ready.specs.Tags.{Tags}
 use Rattle.sessions.specs.Meanings.{meaning_of}
 use Rattle.discipline.specs.Continues.{RunEffect}
-use Rattle.discipline.specs.Caps.{cap_refusal, StepUnder}
+use Rattle.discipline.specs.caps.{cap_refusal, StepUnder}
 use Rattle.discipline.specs.declared.cap.Cap.{Cap}
 use Rattle.self_clocked.specs.declared.line.SelfClocked.{SelfClocked}
 use Rattle.self_clocked.specs.Exact.{Exact, Sound}
@@ -59,48 +59,48 @@ under_same f steps None x y c a keeps s = keeps s
 under_same f steps (Some reason) x y c a keeps s = ap f s.1
 
 module _ {R : Type 0} (tags : R → Tags) where
-  abbrev pub line-steps : SelfClocked R → Call → Answer → SelfClocked R → Type 0
-  line-steps x c a y = Exact (state x) c a (state y) × Sound (tags y.ready) (state y)
+  abbrev pub line_steps : SelfClocked R → Call → Answer → SelfClocked R → Type 0
+  line_steps x c a y = Exact (state x) c a (state y) × Sound (tags y.ready) (state y)
 
-  abbrev pub inner-steps : Cap (SelfClocked R) → Call → Answer → Cap (SelfClocked R) → Type 0
-  inner-steps x c a y = (y.cap ≡ x.cap) × StepUnder (cap_refusal x.cap.number (meaning_of x.below.sessions) c) line-steps x.below c a y.below
+  abbrev pub inner_steps : Cap (SelfClocked R) → Call → Answer → Cap (SelfClocked R) → Type 0
+  inner_steps x c a y = (y.cap ≡ x.cap) × StepUnder (cap_refusal x.cap.number (meaning_of x.below.sessions) c) line_steps x.below c a y.below
 
-  abbrev pub outer-steps : Cap (Cap (SelfClocked R)) → Call → Answer → Cap (Cap (SelfClocked R)) → Type 0
-  outer-steps x c a y = (y.cap ≡ x.cap) × StepUnder (cap_refusal x.cap.number (meaning_of x.below.below.sessions) c) inner-steps x.below c a y.below
+  abbrev pub outer_steps : Cap (Cap (SelfClocked R)) → Call → Answer → Cap (Cap (SelfClocked R)) → Type 0
+  outer_steps x c a y = (y.cap ≡ x.cap) × StepUnder (cap_refusal x.cap.number (meaning_of x.below.below.sessions) c) inner_steps x.below c a y.below
 
   module _ (inner outer : ℕ) where
     -- the two caps
-    Caps : Cap (Cap (SelfClocked R)) → Type 0
-    Caps x = (x.cap.number ≡ outer) × (x.below.cap.number ≡ inner)
+    caps : Cap (Cap (SelfClocked R)) → Type 0
+    caps x = (x.cap.number ≡ outer) × (x.below.cap.number ≡ inner)
 
-    caps-keep : (x y : Cap (Cap (SelfClocked R))) (c : Call) (a : Answer) → Caps x → outer-steps x c a y → Caps y
-    unfolding Caps
-    caps-keep x y c a caps step = (
+    caps_keep : (x y : Cap (Cap (SelfClocked R))) (c : Call) (a : Answer) → caps x → outer_steps x c a y → caps y
+    unfolding caps
+    caps_keep x y c a caps step = (
       ap (λ n. n.number) step.0 ∙ caps.0,
-      under_same (λ z. z.cap.number) inner-steps (cap_refusal x.cap.number (meaning_of x.below.below.sessions) c) x.below y.below c a
+      under_same (λ z. z.cap.number) inner_steps (cap_refusal x.cap.number (meaning_of x.below.below.sessions) c) x.below y.below c a
           (λ s. ap (λ n. n.number) s.0) step.1 ∙
           caps.1,
     )
 
-    caps-move : (x y : Cap (Cap (SelfClocked R))) (c : Call) (a : Answer) → Caps x → outer-steps x c a y →
+    caps_move : (x y : Cap (Cap (SelfClocked R))) (c : Call) (a : Answer) → caps x → outer_steps x c a y →
         Capped outer (Capped inner Exact) (state x.below.below) c a (state y.below.below)
-    unfolding Caps
-    caps-move x y c a caps step =
+    unfolding caps
+    caps_move x y c a caps step =
         let m = meaning_of x.below.below.sessions in
         subst (λ (n : ℕ). StepUnder (cap_refusal n m c) (Capped inner Exact) (state x.below.below) c a (state y.below.below)) caps.0
-        (under (λ z. state z.below) inner-steps (Capped inner Exact) (cap_refusal x.cap.number m c) x.below y.below c a
+        (under (λ z. state z.below) inner_steps (Capped inner Exact) (cap_refusal x.cap.number m c) x.below y.below c a
         (λ s.
         subst (λ (n : ℕ). StepUnder (cap_refusal n m c) Exact (state x.below.below) c a (state y.below.below)) caps.1
-        (under (λ z. state z) line-steps Exact (cap_refusal x.below.cap.number m c) x.below.below y.below.below c a (λ t. t.0) s.1))
+        (under (λ z. state z) line_steps Exact (cap_refusal x.below.cap.number m c) x.below.below y.below.below c a (λ t. t.0) s.1))
         step.1)
 
-    pub capped-run : (calls : List Call) (after : List Answer) (x y : Cap (Cap (SelfClocked R))) (r : Result ℕ Refusal) → x.cap.number ≡ outer →
-        x.below.cap.number ≡ inner → New (state x.below.below) → Made outer-steps calls after x y r → LedBy (Capped outer (Capped inner Exact)) calls after r
-    unfolding Caps
-    capped-run calls after x y (Ok count) is-outer is-inner new made = (
+    pub capped_run : (calls : List Call) (after : List Answer) (x y : Cap (Cap (SelfClocked R))) (r : Result ℕ Refusal) → x.cap.number ≡ outer →
+        x.below.cap.number ≡ inner → New (state x.below.below) → Made outer_steps calls after x y r → LedBy (Capped outer (Capped inner Exact)) calls after r
+    unfolding caps
+    capped_run calls after x y (Ok count) is-outer is-inner new made = (
       state y.below.below,
-      led_along (λ z. z ≡ x) outer-steps New (Capped outer (Capped inner Exact)) (λ z. state z.below.below) Caps
-          (λ z same. (ap (λ v. v.cap.number) same ∙ is-outer, ap (λ v. v.below.cap.number) same ∙ is-inner)) caps-keep
-          (λ z same. subst (λ (v : Cap (Cap (SelfClocked R))). New (state v.below.below)) (sym same) new) caps-move (extended [] calls after) y made,
+      led_along (λ z. z ≡ x) outer_steps New (Capped outer (Capped inner Exact)) (λ z. state z.below.below) caps
+          (λ z same. (ap (λ v. v.cap.number) same ∙ is-outer, ap (λ v. v.below.cap.number) same ∙ is-inner)) caps_keep
+          (λ z same. subst (λ (v : Cap (Cap (SelfClocked R))). New (state v.below.below)) (sym same) new) caps_move (extended [] calls after) y made,
     )
-    capped-run calls after x y (Err reason) is-outer is-inner new made = tt
+    capped_run calls after x y (Err reason) is-outer is-inner new made = tt

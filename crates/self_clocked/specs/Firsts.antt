@@ -38,24 +38,24 @@ module _ (m y : Meaning) (n : ℕ) (there : (k : ℕ) → (k ≢ n) → waiting_
       let mark = first_mark (waiting_in y n) in
       sym
       (first_marks_from y (slice_set (first_marks m) n mark) (length-set (first_marks m) n mark ∙ first_marks_length m)
-      (λ s l. at-session s l (cases_eq s n)))
+      (λ s l. at_session s l (cases_eq s n)))
     where
-      at-session : (s : ℕ) → s < 64 → (s ≡ n) ⊎ (s ≢ n) → tag_of (slice_set (first_marks m) n (first_mark (waiting_in y n))) s ≡ first_mark (waiting_in y s)
-      at-session s l (inl e) =
+      at_session : (s : ℕ) → s < 64 → (s ≡ n) ⊎ (s ≢ n) → tag_of (slice_set (first_marks m) n (first_mark (waiting_in y n))) s ≡ first_mark (waiting_in y s)
+      at_session s l (inl e) =
           let inside : n < length (first_marks m) = omega (arith, first_marks_length m) in
           ap (tag_of (slice_set (first_marks m) n (first_mark (waiting_in y n)))) e ∙ get_or-set_same (first_marks m) n (first_mark (waiting_in y n)) None inside ∙
           ap (λ k. first_mark (waiting_in y k)) (sym e)
-      at-session s l (inr ne) =
+      at_session s l (inr ne) =
           get_or-set_other (first_marks m) n s (first_mark (waiting_in y n)) None ne ∙ first_marks_at m s l ∙ ap first_mark (sym (there s ne))
 
   -- the first marks are the same where the first packet is
   pub first_marks_same : first_mark (waiting_in y n) ≡ first_mark (waiting_in m n) → first_marks y ≡ first_marks m
   first_marks_same same =
-      first_marks_from m (first_marks y) (first_marks_length y) (λ s l. first_marks_at y s l ∙ at-session s (cases_eq s n))
+      first_marks_from m (first_marks y) (first_marks_length y) (λ s l. first_marks_at y s l ∙ at_session s (cases_eq s n))
     where
-      at-session : (s : ℕ) → (s ≡ n) ⊎ (s ≢ n) → first_mark (waiting_in y s) ≡ first_mark (waiting_in m s)
-      at-session s (inl e) = ap (λ k. first_mark (waiting_in y k)) e ∙ same ∙ ap (λ k. first_mark (waiting_in m k)) (sym e)
-      at-session s (inr ne) = ap first_mark (there s ne)
+      at_session : (s : ℕ) → (s ≡ n) ⊎ (s ≢ n) → first_mark (waiting_in y s) ≡ first_mark (waiting_in m s)
+      at_session s (inl e) = ap (λ k. first_mark (waiting_in y k)) e ∙ same ∙ ap (λ k. first_mark (waiting_in m k)) (sym e)
+      at_session s (inr ne) = ap first_mark (there s ne)
 
 -- ---- what the next packet is
 

@@ -71,14 +71,14 @@ no_larger a b le = grind (arith, nat_tests)
 pub next_of_some : (m : Meaning) → 0 < all_waiting m → Next m
 next_of_some m some = go (least_of (first_marks m)) refl
   where
-    has-tag : (s : ℕ) (q : Packet) (qs : List Packet) → s < 64 → waiting_in m s ≡ q ∷ qs → tag_of (first_marks m) s ≡ Some q.mark
-    has-tag s q qs low is = first_marks_at m s low ∙ ap first_mark is
+    has_tag : (s : ℕ) (q : Packet) (qs : List Packet) → s < 64 → waiting_in m s ≡ q ∷ qs → tag_of (first_marks m) s ≡ Some q.mark
+    has_tag s q qs low is = first_marks_at m s low ∙ ap first_mark is
 
     go : (o : Option Entry) → o ≡ least_of (first_marks m) → Next m
     go None is =
         let who = sum_some 64 (λ s. length (waiting_in m s)) some in
         let first = one_first (waiting_in m who.0) who.2 in
-        absurd (is_least_from (first_marks m) None is who.0 first.0.mark (has-tag who.0 first.0 (after_first (waiting_in m who.0)) who.1 first.1))
+        absurd (is_least_from (first_marks m) None is who.0 first.0.mark (has_tag who.0 first.0 (after_first (waiting_in m who.0)) who.1 first.1))
     go (Some entry) is =
         let first = least_first m entry is in
         let least = is_least_from (first_marks m) (Some entry) is in
@@ -88,7 +88,7 @@ next_of_some m some = go (least_of (first_marks m)) refl
           is = next_is m entry first.packet (after_first (waiting_in m entry.1)) is first.first;
           first = first.first;
           least = λ s q qs low has.
-              subst (λ (t : ℕ). AtMost (t, entry.1) (q.mark, s)) (sym first.mark) (least.1 s q.mark (has-tag s q qs low has));
+              subst (λ (t : ℕ). AtMost (t, entry.1) (q.mark, s)) (sym first.mark) (least.1 s q.mark (has_tag s q qs low has));
         }
 
 pub next_to_start : (x : Clocked) → refusal_of x Start ≡ None → Next x.meaning

@@ -23,10 +23,10 @@ use Rattle.sessions.specs.Meanings.{meaning_in}
 use Rattle.sessions.proofs.Keeping.{repeated}
 
 -- a meaning that differs from m at one session and in the packet in service
-pub is-with-session :
+pub is_with_session :
     (m n : Meaning) (s : ℕ) (new : Option Session) (service : Option Service) → n.session s ≡ new →
     ((k : ℕ) → (k ≡ s → ⊥) → n.session k ≡ m.session k) → n.in_service ≡ service → n ≡ with_session m s new service
-is-with-session m n s new service here there served =
+is_with_session m n s new service here there served =
     let at : (k : ℕ) → n.session k ≡ cond (eqb s k) new (m.session k) = λ k.
     ⊎_elim
     (λ (e : s ≡ k). ap n.session (sym e) ∙ here ∙ sym (cond-true (eqb s k) new (m.session k) (eq-eqb s k e)))
@@ -87,13 +87,13 @@ module _ (p : Parts) (s : ℕ) (seat : Seat) (low : s < length p.seats) where
   changed_there : (k : ℕ) → (k ≡ s → ⊥) → session_of (seat_at (set p.seats s seat) k) (queue p.waiting k) ≡ (meaning_in p).session k
   changed_there k ne = ap (λ t. session_of t (queue p.waiting k)) (get_or-set_other p.seats s k seat Closed ne)
 
-pub open-meaning :
+pub open_meaning :
     (p after : Parts) (s : ℕ) (terms : Terms) → s < length p.seats → is_open (seat_at p.seats s) ≡ false →
     waiting_while_closed (seat_at p.seats s) (queue p.waiting s) ≡ 0 → after ≡ with_seat p s (new_seat terms) →
     meaning_in after ≡ after_open (meaning_in p) s terms.weight terms.limit
-open-meaning p after s terms low closed none is =
+open_meaning p after s terms low closed none is =
     ap meaning_in is ∙
-    is-with-session (meaning_in p) (meaning_in (with_seat p s (new_seat terms))) s _ _
+    is_with_session (meaning_in p) (meaning_in (with_seat p s (new_seat terms))) s _ _
     (changed_here p s (new_seat terms) low ∙ ap (session_of (new_seat terms)) (closed_none (seat_at p.seats s) (queue p.waiting s) closed none))
     (changed_there p s (new_seat terms) low)
     refl
@@ -108,7 +108,7 @@ finish_meaning p after service low carried is =
     let seat = with_octets (charge service.packet.length) (seat_at p.seats s) in
     let n = all_waiting p.waiting in
     ap meaning_in is ∙
-    is-with-session (meaning_in p) (meaning_in (with_condition (with_seat p s seat) (moved p.condition Finished n))) s _ _
+    is_with_session (meaning_in p) (meaning_in (with_condition (with_seat p s seat) (moved p.condition Finished n))) s _ _
     (changed_here p s seat low ∙ finished_session (seat_at p.seats s) (queue p.waiting s) (charge service.packet.length))
     (changed_there p s seat low)
     (ap (λ c. service_of (moved c Finished n)) carried ∙ no_service (eqb n 0))
@@ -128,13 +128,13 @@ module _ (p after : Parts) (s : ℕ) (packets : List Packet) (seats : after.seat
       ∙ ap (λ q. session_of (seat_at p.seats k) (q k)) queues
       ∙ ap (session_of (seat_at p.seats k)) (put_other (queue p.waiting) s packets k ne)
 
-pub enter-meaning :
+pub enter_meaning :
     (p after : Parts) (s : ℕ) (packet : Packet) → after.seats ≡ p.seats →
     queue after.waiting ≡ put (queue p.waiting) s (queue p.waiting s ++ packet ∷ []) →
     after.condition ≡ moved p.condition Entered (all_waiting after.waiting) → meaning_in after ≡ after_enter (meaning_in p) s packet
-enter-meaning p after s packet seats queues condition =
+enter_meaning p after s packet seats queues condition =
     let packets = queue p.waiting s in
-    is-with-session (meaning_in p) (meaning_in after) s _ _
+    is_with_session (meaning_in p) (meaning_in after) s _ _
     (queue_here p after s (packets ++ packet ∷ []) seats queues ∙ entered_session (seat_at p.seats s) packets packet)
     (queue_there p after s (packets ++ packet ∷ []) seats queues)
     (ap service_of condition ∙ entered_service p.condition (all_waiting after.waiting))
@@ -147,7 +147,7 @@ pub start_meaning :
 start_meaning p after service paused seats queues condition =
     let s = service.session in
     let packets = queue p.waiting s in
-    is-with-session (meaning_in p) (meaning_in after) s _ _
+    is_with_session (meaning_in p) (meaning_in after) s _ _
     (queue_here p after s (rest_of packets) seats queues ∙ started_session (seat_at p.seats s) packets)
     (queue_there p after s (rest_of packets) seats queues)
     (ap service_of (condition ∙ ap (λ c. moved c (Started service) (all_waiting after.waiting)) paused))

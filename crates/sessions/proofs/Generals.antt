@@ -23,47 +23,47 @@ Chosen x (Ok service) = (why_start x ≡ None) × ((rest : List Packet) × (wait
 Chosen x (Err e) = why_start x ≡ Some e
 
 module _ (x y : Meaning) (a : Answer) where
-  pub general-open :
+  pub general_open :
       (tell : Result (Unit {0}) Refusal → Answer) → TellsRefusals tell → tell (Ok (tt {0})) ≡ Opened →
       (why : Option Refusal) (s weight limit : ℕ) → a ≡ tell (verdict why (tt {0})) → y ≡ settled why x (after_open x s weight limit) →
       General x why y (Open s weight limit) a
-  general-open tell refused ok None s weight limit is to =
+  general_open tell refused ok None s weight limit is to =
       subst (General x None y (Open s weight limit)) (sym (is ∙ ok)) (opens refl to)
-  general-open tell refused ok (Some e) s weight limit is to =
+  general_open tell refused ok (Some e) s weight limit is to =
       subst (General x (Some e) y (Open s weight limit)) (sym (is ∙ refused e)) (refuses refl to)
 
-  pub general-enter :
+  pub general_enter :
       (tell : Result ℕ Refusal → Answer) → TellsRefusals tell → (mark : ℕ) → tell (Ok mark) ≡ Entered mark →
       (why : Option Refusal) (s length ticket : ℕ) → a ≡ tell (verdict why mark) →
       y ≡ settled why x (after_enter x s (record { length = length; ticket = ticket; mark = mark })) →
       General x why y (Enter s length ticket) a
-  general-enter tell refused mark ok None s length ticket is to =
+  general_enter tell refused mark ok None s length ticket is to =
       subst (General x None y (Enter s length ticket)) (sym (is ∙ ok)) (enters refl to)
-  general-enter tell refused mark ok (Some e) s length ticket is to =
+  general_enter tell refused mark ok (Some e) s length ticket is to =
       subst (General x (Some e) y (Enter s length ticket)) (sym (is ∙ refused e)) (refuses refl to)
 
   module _ (tell : Result Service Refusal → Answer) (refused : TellsRefusals tell) where
-    pub general-start :
+    pub general_start :
         ((service : Service) → tell (Ok service) ≡ Started service.session service.packet) →
         (r : Result Service Refusal) → Chosen x r → a ≡ tell r → y ≡ after_take x r → General x (why_start x) y Start a
-    general-start ok (Ok service) chosen is to =
+    general_start ok (Ok service) chosen is to =
         subst (General x (why_start x) y Start) (sym (is ∙ ok service)) (starts chosen.0 chosen.1.1 to)
-    general-start ok (Err e) chosen is to =
+    general_start ok (Err e) chosen is to =
         subst (General x (why_start x) y Start) (sym (is ∙ refused e)) (refuses chosen to)
 
-    finish-by :
+    finish_by :
         ((service : Service) → tell (Ok service) ≡ Finished service.session service.packet) →
         (o : Option Service) → x.in_service ≡ o → a ≡ tell (served o) → y ≡ after_served x (served o) →
         General x (finish_refusal (is_some o)) y Finish a
-    finish-by ok None idle is to =
+    finish_by ok None idle is to =
         subst (General x (Some NothingInService) y Finish) (sym (is ∙ refused NothingInService)) (refuses refl to)
-    finish-by ok (Some service) busy is to =
+    finish_by ok (Some service) busy is to =
         subst (General x None y Finish) (sym (is ∙ ok service)) (finishes refl busy to)
 
-    pub general-finish :
+    pub general_finish :
         ((service : Service) → tell (Ok service) ≡ Finished service.session service.packet) →
         a ≡ tell (finish_answer x) → y ≡ after_served x (finish_answer x) → General x (why_finish x) y Finish a
-    general-finish ok = finish-by ok x.in_service refl
+    general_finish ok = finish_by ok x.in_service refl
 
 -- a refused call leaves the meaning
 pub refused_leaves : {x y : Meaning} {why : Option Refusal} {call : Call} {e : Refusal} → General x why y call (Refused e) → y ≡ x

@@ -70,18 +70,18 @@ repeated (suc n) zero = refl
 repeated (suc n) (suc s) = repeated n s
 
 -- one seat changes
-pub seat-set :
+pub seat_set :
     (P : ℕ → Seat → Type 0) (seats : List Seat) (s : ℕ) (seat : Seat) → s < length seats → P s seat →
     ((k : ℕ) → (k ≡ s → ⊥) → P k (seat_at seats k)) → (k : ℕ) → P k (seat_at (set seats s seat) k)
-seat-set P seats s seat low here there k =
+seat_set P seats s seat low here there k =
     ⊎_elim
     (λ (e : k ≡ s). subst (λ n. P n (seat_at (set seats s seat) n)) (sym e) (subst (P s) (sym (get_or-set_same seats s seat Closed low)) here))
     (λ (ne : k ≡ s → ⊥). subst (P k) (sym (get_or-set_other seats s k seat Closed ne)) (there k ne))
     (cases_eq k s)
 
-open-empty : (seat : Seat) (packets : List Packet) → is_open seat ≡ true → waiting_while_closed seat packets ≡ 0
-open-empty Closed packets opened = absurd (both_ways false refl opened)
-open-empty (Open account) packets opened = refl
+open_empty : (seat : Seat) (packets : List Packet) → is_open seat ≡ true → waiting_while_closed seat packets ≡ 0
+open_empty Closed packets opened = absurd (both_ways false refl opened)
+open_empty (Open account) packets opened = refl
 
 rest_empty : (seat : Seat) (packets : List Packet) → waiting_while_closed seat packets ≡ 0 → waiting_while_closed seat (rest_of packets) ≡ 0
 rest_empty Closed [] none = none
@@ -109,14 +109,14 @@ open_below seats s opened =
 
 -- ---- the condition
 
-serves-set :
+serves_set :
     (condition : Condition) (seats : List Seat) (s : ℕ) (seat : Seat) → s < length seats → is_open seat ≡ true →
     serves_open condition seats ≡ true → serves_open condition (set seats s seat) ≡ true
-serves-set Idle seats s seat low opened serves = refl
-serves-set Pausing seats s seat low opened serves = refl
-serves-set (Carrying service) seats s seat low opened serves =
+serves_set Idle seats s seat low opened serves = refl
+serves_set Pausing seats s seat low opened serves = refl
+serves_set (Carrying service) seats s seat low opened serves =
     let P : ℕ → Seat → Type 0 = λ k t. is_open (seat_at seats k) ≡ true → is_open t ≡ true in
-    seat-set P seats s seat low (λ was. opened) (λ k ne was. was) service.session serves
+    seat_set P seats s seat low (λ was. opened) (λ k ne was. was) service.session serves
 
 fits_entered : (condition : Condition) (n : ℕ) → 0 < n → fits (moved condition Entered n) n ≡ true
 fits_entered Idle n some = lt-ltb 0 n some
@@ -176,28 +176,28 @@ module _ (p : Parts) (g : Ghosts p) where
       let there : s < length p.seats = omega (arith, g.0) in (
         length-set p.seats s seat ∙ g.0,
         (
-          seat-set (λ k t. terms_within t ≡ true) p.seats s seat there within (λ k ne. g.1.0 k),
+          seat_set (λ k t. terms_within t ≡ true) p.seats s seat there within (λ k ne. g.1.0 k),
           (
-            seat-set (λ k t. waiting_while_closed t (queue p.waiting k) ≡ 0) p.seats s seat there (open-empty seat _ opened)
+            seat_set (λ k t. waiting_while_closed t (queue p.waiting k) ≡ 0) p.seats s seat there (open_empty seat _ opened)
                 (λ k ne. g.1.1.0 k),
-            (g.1.1.1.0, (serves-set p.condition p.seats s seat there opened g.1.1.1.1.0, tt)),
+            (g.1.1.1.0, (serves_set p.condition p.seats s seat there opened g.1.1.1.1.0, tt)),
           ),
         ),
       )
 
-  pub open-keeps :
+  pub open_keeps :
       (s : ℕ) (terms : Terms) (after : Parts) → Ok (tt {0}) ≡ verdict (open_refusal (is_open (seat_at p.seats s)) s terms.weight terms.limit) (tt {0}) →
       after ≡ with_seat p s (new_seat terms) → Ghosts after
-  open-keeps s terms after ok is =
+  open_keeps s terms after ok is =
       let can = openable (is_open (seat_at p.seats s)) s terms (no_reason (open_refusal (is_open (seat_at p.seats s)) s terms.weight terms.limit) (tt {0}) (tt {0}) ok) in
       subst Ghosts (sym is) (seat_keeps s (new_seat terms) can.session refl can.terms)
 
   -- the queues change, and the condition
-  queues-keep :
+  queues_keep :
       (after : Parts) → after.seats ≡ p.seats →
       ((k : ℕ) → waiting_while_closed (seat_at p.seats k) (queue after.waiting k) ≡ 0) → ConditionFits after →
       serves_open after.condition p.seats ≡ true → Ghosts after
-  queues-keep after seats closed fit serves = (
+  queues_keep after seats closed fit serves = (
     ap length seats ∙ g.0,
     (
       λ k. ap (λ l. terms_within (seat_at l k)) seats ∙ g.1.0 k,
@@ -208,18 +208,18 @@ module _ (p : Parts) (g : Ghosts p) where
     ),
   )
 
-  pub enter-keeps :
+  pub enter_keeps :
       (s : ℕ) (packet : Packet) (after : Parts) → s < 64 → is_open (seat_at p.seats s) ≡ true → after.seats ≡ p.seats →
       queue after.waiting ≡ put (queue p.waiting) s (queue p.waiting s ++ packet ∷ []) →
       after.condition ≡ moved p.condition Entered (all_waiting after.waiting) → Ghosts after
-  enter-keeps s packet after low opened seats queues condition =
+  enter_keeps s packet after low opened seats queues condition =
       let q = queue p.waiting in
       let n = all_waiting after.waiting in
       let some : 0 < n = omega (arith, ap total queues, total_push q s packet low) in
-      queues-keep after seats
+      queues_keep after seats
       (λ k. ap (λ f. waiting_while_closed (seat_at p.seats k) (f k)) queues ∙
       ⊎_elim
-      (λ (e : k ≡ s). open-empty (seat_at p.seats k) _ (ap (λ i. is_open (seat_at p.seats i)) e ∙ opened))
+      (λ (e : k ≡ s). open_empty (seat_at p.seats k) _ (ap (λ i. is_open (seat_at p.seats i)) e ∙ opened))
       (λ (ne : k ≡ s → ⊥). ap (waiting_while_closed (seat_at p.seats k)) (put_other q s (q s ++ packet ∷ []) k ne) ∙ g.1.1.0 k)
       (cases_eq k s))
       (ap (λ c. fits c n) condition ∙ fits_entered p.condition n some)
@@ -230,17 +230,17 @@ module _ (p : Parts) (g : Ghosts p) where
   must_pause s low some free =
       pausing p.condition (all_waiting p.waiting) g.1.1.1.0 (omega (arith, count_within_total (queue p.waiting) s low)) free
 
-  pub start-keeps :
+  pub start_keeps :
       (service : Service) (after : Parts) → service.session < 64 → 0 < length (queue p.waiting service.session) →
       Ok (tt {0}) ≡ free_from p.condition → after.seats ≡ p.seats →
       queue after.waiting ≡ after_take (queue p.waiting) service.session →
       after.condition ≡ moved p.condition (Started service) (all_waiting after.waiting) → Ghosts after
-  start-keeps service after low some free seats queues condition =
+  start_keeps service after low some free seats queues condition =
       let s = service.session in
       let q = queue p.waiting in
       let n = all_waiting after.waiting in
       let now : after.condition ≡ Carrying service = condition ∙ ap (λ c. moved c (Started service) n) (must_pause s low some free) in
-      queues-keep after seats
+      queues_keep after seats
       (λ k. ap (λ f. waiting_while_closed (seat_at p.seats k) (f k)) queues ∙
       ⊎_elim
       (λ (e : k ≡ s).
@@ -257,11 +257,11 @@ module _ (p : Parts) (g : Ghosts p) where
   pub serves_below : (service : Service) → p.condition ≡ Carrying service → service.session < length p.seats
   serves_below service is = open_below p.seats service.session (serves service is)
 
-  pub finish-keeps :
+  pub finish_keeps :
       (service : Service) (amount : ℕ) (after : Parts) → p.condition ≡ Carrying service →
       after ≡ with_condition (with_seat p service.session (with_octets amount (seat_at p.seats service.session)))
       (moved p.condition Finished (all_waiting p.waiting)) → Ghosts after
-  finish-keeps service amount after carried is =
+  finish_keeps service amount after carried is =
       let s = service.session in
       let n = all_waiting p.waiting in
       let seat = seat_at p.seats s in

@@ -38,21 +38,21 @@ waiting_of_session (Open account) packets none = refl
 
 -- ---- a question about an open session
 
-ask-ok :
+ask_ok :
     {A : Type 0} (low : Bool) (seat : Seat) (packets : List Packet) (ask : Session → A) (account : Account) →
     Ok account ≡ cond low (account_of seat) (Err NoSuchSession) →
     Ok (ask (session_with account packets)) ≡ cond low (if_open (session_of seat packets) ask) (Err NoSuchSession)
-ask-ok true Closed packets ask account is = let never : ◌≡◌ {A = ℕ} 0 1 = cc in let no : ⊥ = omega arith in absurd no
-ask-ok true (Open other) packets ask account is =
+ask_ok true Closed packets ask account is = let never : ◌≡◌ {A = ℕ} 0 1 = cc in let no : ⊥ = omega arith in absurd no
+ask_ok true (Open other) packets ask account is =
     let same : account ≡ other = cc in ap (λ a. Ok (ask (session_with a packets))) same
-ask-ok false seat packets ask account is = let never : ◌≡◌ {A = ℕ} 0 1 = cc in let no : ⊥ = omega arith in absurd no
+ask_ok false seat packets ask account is = let never : ◌≡◌ {A = ℕ} 0 1 = cc in let no : ⊥ = omega arith in absurd no
 
-ask-err :
+ask_err :
     {A : Type 0} (low : Bool) (seat : Seat) (packets : List Packet) (ask : Session → A) (e : Refusal) →
     Err e ≡ cond low (account_of seat) (Err NoSuchSession) → Err e ≡ cond low (if_open (session_of seat packets) ask) (Err NoSuchSession)
-ask-err true Closed packets ask e is = cc
-ask-err true (Open other) packets ask e is = let never : ◌≡◌ {A = ℕ} 0 1 = cc in let no : ⊥ = omega arith in absurd no
-ask-err false seat packets ask e is = cc
+ask_err true Closed packets ask e is = cc
+ask_err true (Open other) packets ask e is = let never : ◌≡◌ {A = ℕ} 0 1 = cc in let no : ⊥ = omega arith in absurd no
+ask_err false seat packets ask e is = cc
 
 account_below : (s : ℕ) (seats : List Seat) (account : Account) → Ok account ≡ account_at seats s → s < 64
 account_below s seats account is =
@@ -67,17 +67,17 @@ module _ {A : Type 0} (x : Sessions) (s : ℕ) (ask : Session → A) where
   pub asked_open : (account : Account) → Ok account ≡ account_at x.parts.seats s →
       Ok (ask (session_with account (queue x.parts.waiting s))) ≡ asked (meaning_of x) s ask
   unfolding meaning_of
-  asked_open account is = ask-ok (ltb s 64) (seat_at x.parts.seats s) (queue x.parts.waiting s) ask account is
+  asked_open account is = ask_ok (ltb s 64) (seat_at x.parts.seats s) (queue x.parts.waiting s) ask account is
 
   pub asked_refused : (e : Refusal) → Err e ≡ account_at x.parts.seats s → Err e ≡ asked (meaning_of x) s ask
   unfolding meaning_of
-  asked_refused e is = ask-err (ltb s 64) (seat_at x.parts.seats s) (queue x.parts.waiting s) ask e is
+  asked_refused e is = ask_err (ltb s 64) (seat_at x.parts.seats s) (queue x.parts.waiting s) ask e is
 
   -- the same, where the answer is one of the table of waiting packets
-  pub asked-waiting :
+  pub asked_waiting :
       (account : Account) (n : A) (r : Result A Refusal) → Ok account ≡ account_at x.parts.seats s → r ≡ of_session s n →
       n ≡ ask (session_with account (queue x.parts.waiting s)) → r ≡ asked (meaning_of x) s ask
-  asked-waiting account n r is answer same =
+  asked_waiting account n r is answer same =
       answer ∙ of_session_low s n (account_below s x.parts.seats account is) ∙ ap Ok same ∙ asked_open account is
 
 -- ---- what waits

@@ -23,9 +23,9 @@ use Rattle.sessions.specs.Steps.{with_seat, with_condition}
 use Rattle.sessions.specs.Meanings.{meaning_in, meaning_of}
 use Rattle.sessions.specs.Verdicts.{verdict, settled, why_open, why_put, taken, take_answer, after_take, served, finish_answer}
 use Rattle.sessions.proofs.Reading.{open_is_some, waiting_is_queue, all_waiting_is_total}
-use Rattle.sessions.proofs.Keeping.{Ghosts, ghosts, no_reason, the_reason, openable, must_pause, carrying, serves_below, enter-keeps, start-keeps, finish-keeps}
+use Rattle.sessions.proofs.Keeping.{Ghosts, ghosts, no_reason, the_reason, openable, must_pause, carrying, serves_below, enter_keeps, start_keeps, finish_keeps}
 use Rattle.sessions.proofs.Using.{Puttable, put_parts}
-use Rattle.sessions.proofs.Changing.{open-meaning, enter-meaning, start_meaning, finish_meaning}
+use Rattle.sessions.proofs.Changing.{open_meaning, enter_meaning, start_meaning, finish_meaning}
 
 -- ---- refused or not
 
@@ -39,11 +39,11 @@ stays why value before after e refused = sym (ap (λ w. settled w before after) 
 -- ---- open
 
 module _ (x : Sessions) (s : ℕ) (terms : Terms) where
-  pub open-verdict :
+  pub open_verdict :
       verdict (open_refusal (is_open (seat_at x.parts.seats s)) s terms.weight terms.limit) (tt {0}) ≡
       verdict (why_open (meaning_of x) s terms.weight terms.limit) (tt {0})
   unfolding meaning_of
-  open-verdict =
+  open_verdict =
       ap (λ b. verdict (open_refusal b s terms.weight terms.limit) (tt {0}))
       (sym (open_is_some (seat_at x.parts.seats s) (queue x.parts.waiting s)))
 
@@ -54,7 +54,7 @@ module _ (x : Sessions) (s : ℕ) (terms : Terms) where
   opened y ok is =
       let can = openable (is_open (seat_at x.parts.seats s)) s terms
       (no_reason (open_refusal (is_open (seat_at x.parts.seats s)) s terms.weight terms.limit) (tt {0}) (tt {0}) ok) in
-      open-meaning x.parts y.parts s terms (omega (arith, can.session, x.seats)) can.closed (x.closed s) is
+      open_meaning x.parts y.parts s terms (omega (arith, can.session, x.seats)) can.closed (x.closed s) is
 
 -- ---- put
 
@@ -76,7 +76,7 @@ module _ (x : Sessions) (s : ℕ) (ok : Ok (tt {0}) ≡ verdict (why_put (meanin
       (packet : Packet) (after : Parts) → after.seats ≡ x.parts.seats →
       queue after.waiting ≡ put (queue x.parts.waiting) s (queue x.parts.waiting s ++ packet ∷ []) →
       after.condition ≡ moved x.parts.condition Entered (queues.all_waiting after.waiting) → Ghosts after
-  put_keeps packet after seats queue condition = enter-keeps x.parts (ghosts x) s packet after put_below put_open seats queue condition
+  put_keeps packet after seats queue condition = enter_keeps x.parts (ghosts x) s packet after put_below put_open seats queue condition
 
 pub entered :
     (x y : Sessions) (s : ℕ) (packet : Packet) → y.parts.seats ≡ x.parts.seats →
@@ -84,7 +84,7 @@ pub entered :
     y.parts.condition ≡ moved x.parts.condition Entered (queues.all_waiting y.parts.waiting) →
     meaning_of y ≡ after_enter (meaning_of x) s packet
 unfolding meaning_of
-entered x y s packet seats queue condition = enter-meaning x.parts y.parts s packet seats queue condition
+entered x y s packet seats queue condition = enter_meaning x.parts y.parts s packet seats queue condition
 
 -- ---- take
 
@@ -106,46 +106,46 @@ module _ (x : Sessions) (s : ℕ) where
   take_busy e is = busy x.parts.condition (cond (ltb s 64) (taken s (first_of (waiting_in (meaning_of x) s))) (Err NoSuchSession)) e is
 
   module _ (idle : Ok (tt {0}) ≡ free_from x.parts.condition) where
-    take-free : cond (ltb s 64) (taken s (first_of (waiting_in (meaning_of x) s))) (Err NoSuchSession) ≡ take_answer (meaning_of x) s
+    take_free : cond (ltb s 64) (taken s (first_of (waiting_in (meaning_of x) s))) (Err NoSuchSession) ≡ take_answer (meaning_of x) s
     unfolding meaning_of
-    take-free = free x.parts.condition (cond (ltb s 64) (taken s (first_of (waiting_in (meaning_of x) s))) (Err NoSuchSession)) idle
+    take_free = free x.parts.condition (cond (ltb s 64) (taken s (first_of (waiting_in (meaning_of x) s))) (Err NoSuchSession)) idle
 
     pub take_past : (e : Refusal) → Err e ≡ first_answer (queue x.parts.waiting) s → Err e ≡ take_answer (meaning_of x) s
     take_past e is =
         let past = of_session_err s (first_of (queue x.parts.waiting s)) e (sym is) in
         ap Err past.1
-        ∙ sym (cond-false (ltb s 64) (taken s (first_of (waiting_in (meaning_of x) s))) (Err NoSuchSession) (le-ltb s 64 past.0)) ∙ take-free
+        ∙ sym (cond-false (ltb s 64) (taken s (first_of (waiting_in (meaning_of x) s))) (Err NoSuchSession) (le-ltb s 64 past.0)) ∙ take_free
 
-    pub take-first : (o : Option Packet) → Ok o ≡ first_answer (queue x.parts.waiting) s → taken s o ≡ take_answer (meaning_of x) s
-    take-first o is =
+    pub take_first : (o : Option Packet) → Ok o ≡ first_answer (queue x.parts.waiting) s → taken s o ≡ take_answer (meaning_of x) s
+    take_first o is =
         let ok = of_session_ok s (first_of (queue x.parts.waiting s)) o (sym is) in
         ap (taken s) (sym ok.1 ∙ ap first_of (sym (waiting_is_queue x s)))
-        ∙ sym (cond-true (ltb s 64) (taken s (first_of (waiting_in (meaning_of x) s))) (Err NoSuchSession) (lt-ltb s 64 ok.0)) ∙ take-free
+        ∙ sym (cond-true (ltb s 64) (taken s (first_of (waiting_in (meaning_of x) s))) (Err NoSuchSession) (lt-ltb s 64 ok.0)) ∙ take_free
 
     module _ (o : Option Packet) (packet : Packet) (answer : Ok o ≡ first_answer (queue x.parts.waiting) s) (is_some : o ≡ Some packet) where
       found : (s < 64) × (queue x.parts.waiting s ≡ packet ∷ rest_of (queue x.parts.waiting s))
       found = first_some (queue x.parts.waiting) s packet (sym answer ∙ ap Ok is_some)
 
-      take-low : s < 64
-      take-low = found.0
+      take_low : s < 64
+      take_low = found.0
 
-      pub take-ok : Ok (record { session = s; packet = packet }) ≡ take_answer (meaning_of x) s
-      take-ok = ap (taken s) (sym is_some) ∙ take-first o answer
+      pub take_ok : Ok (record { session = s; packet = packet }) ≡ take_answer (meaning_of x) s
+      take_ok = ap (taken s) (sym is_some) ∙ take_first o answer
 
-      take-some : 0 < length (queue x.parts.waiting s)
-      take-some = omega (arith, ap length found.1)
+      take_some : 0 < length (queue x.parts.waiting s)
+      take_some = omega (arith, ap length found.1)
 
       module _ (after : Parts) (seats : after.seats ≡ x.parts.seats)
           (emptied : queue after.waiting ≡ queues.after_take (queue x.parts.waiting) s)
           (condition : after.condition ≡ moved x.parts.condition (Started (record { session = s; packet = packet })) (queues.all_waiting after.waiting)) where
-        pub take-keeps : Ghosts after
-        take-keeps = start-keeps x.parts (ghosts x) (record { session = s; packet = packet }) after take-low take-some idle seats emptied condition
+        pub take_keeps : Ghosts after
+        take_keeps = start_keeps x.parts (ghosts x) (record { session = s; packet = packet }) after take_low take_some idle seats emptied condition
 
         pub took : (y : Sessions) → y.parts ≡ after → meaning_of y ≡ after_start (meaning_of x) s packet
         unfolding meaning_of
         took y is =
             ap meaning_in is
-            ∙ start_meaning x.parts after (record { session = s; packet = packet }) (must_pause x.parts (ghosts x) s take-low take-some idle) seats emptied condition
+            ∙ start_meaning x.parts after (record { session = s; packet = packet }) (must_pause x.parts (ghosts x) s take_low take_some idle) seats emptied condition
 
 -- ---- finish
 
@@ -158,15 +158,15 @@ module _ (x : Sessions) where
     carries : x.parts.condition ≡ Carrying service
     carries = carrying x.parts.condition service ok
 
-    pub finish-below : service.session < length x.parts.seats
-    finish-below = serves_below x.parts (ghosts x) service carries
+    pub finish_below : service.session < length x.parts.seats
+    finish_below = serves_below x.parts (ghosts x) service carries
 
     module _ (after : Parts)
         (is : after ≡ with_condition (with_seat x.parts service.session (with_octets (charge service.packet.length) (seat_at x.parts.seats service.session)))
         (moved x.parts.condition Finished (queues.all_waiting x.parts.waiting))) where
-      pub finished-keeps : Ghosts after
-      finished-keeps = finish-keeps x.parts (ghosts x) service (charge service.packet.length) after carries is
+      pub finished_keeps : Ghosts after
+      finished_keeps = finish_keeps x.parts (ghosts x) service (charge service.packet.length) after carries is
 
       pub finished : (y : Sessions) → y.parts ≡ after → meaning_of y ≡ after_finish (meaning_of x) service.session service.packet
       unfolding meaning_of
-      finished y same = ap meaning_in same ∙ finish_meaning x.parts after service finish-below carries is
+      finished y same = ap meaning_in same ∙ finish_meaning x.parts after service finish_below carries is

@@ -11,7 +11,7 @@ use Rattle.calls.specs.declared.call.Call.TheVariants.{Enter}
 use Rattle.calls.specs.declared.refusal.Refusal.{Refusal}
 use Rattle.calls.specs.declared.refusal.Refusal.TheVariants.{NoSuchSession, NotOpen, BadLength, Full, OutOfReach, NothingWaiting, ServerBusy}
 use Rattle.waiting.specs.Queues.{queue, first_of}
-use Rattle.waiting.proofs.Sums.{sum_below_none, sum_below_same, sum-below-changed}
+use Rattle.waiting.proofs.Sums.{sum_below_none, sum_below_same, sum_below_changed}
 use Rattle.waiting.proofs.Using.{at_most_256_wait, none_waiting}
 use Rattle.sharing.specs.Rules.{check, length_refusal, room_beside}
 use Rattle.sharing.specs.Meanings.{Meaning, Session, nothing_open, waiting_of, waiting_in, all_waiting, refusal, with_session, with_waiting, after_first, credited, after_open, after_enter, after_start, after_finish}
@@ -120,7 +120,7 @@ module _ (m : Meaning) (s : ℕ) (new : Option Session) (service : Option Servic
   all_waiting_changed low =
       omega (
         arith,
-        sum-below-changed 64 (λ k. length (waiting_in m k)) (λ k. length (waiting_in (with_session m s new service) k)) s low
+        sum_below_changed 64 (λ k. length (waiting_in m k)) (λ k. length (waiting_in (with_session m s new service) k)) s low
             (λ k ne. ap length (waiting_there k ne)),
         ap length waiting_here,
       )
@@ -197,9 +197,9 @@ module _ (m : Meaning) (s : ℕ) where
   pub start_waiting_there : (packet : Packet) (k : ℕ) → (k ≡ s → ⊥) → waiting_in (after_start m s packet) k ≡ waiting_in m k
   start_waiting_there packet = waiting_there m s _ (Some (record { session = s; packet = packet }))
 
-  pub start-all-waiting :
+  pub start_all_waiting :
       (packet first : Packet) (rest : List Packet) → s < 64 → waiting_in m s ≡ first ∷ rest → all_waiting (after_start m s packet) + 1 ≡ all_waiting m
-  start-all-waiting packet first rest low is =
+  start_all_waiting packet first rest low is =
       let new = option_map (λ t. with_waiting (after_first t.waiting) t) (m.session s) in
       omega (
         arith,
@@ -275,15 +275,15 @@ module _ (m : Meaning) (s n ticket : ℕ) where
       }
 
   module _ (room reach : ℕ → ℕ) where
-    pub enter-refused-by-length : (e : Refusal) → Err e ≡ length_answer m s n → refusal m room reach (Enter s n ticket) ≡ Some e
-    enter-refused-by-length e is =
+    pub enter_refused_by_length : (e : Refusal) → Err e ≡ length_answer m s n → refusal m room reach (Enter s n ticket) ≡ Some e
+    enter_refused_by_length e is =
         first_err (ltb s 64) (length_of n (m.session s)) _ NoSuchSession e is (length_err (m.session s) n (room s) (reach s) e)
 
     -- what is left to check
-    pub enter-by-room-and-reach :
+    pub enter_by_room_and_reach :
         (terms : Terms) → Ok terms ≡ length_answer m s n →
         refusal m room reach (Enter s n ticket) ≡ check (ltb 0 (room s)) Full (check (leb n (reach s)) OutOfReach None)
-    enter-by-room-and-reach terms is =
+    enter_by_room_and_reach terms is =
         let low = first_ok (ltb s 64) (length_of n (m.session s)) NoSuchSession terms is in
         let ok = length_ok (m.session s) n terms low.1 in
         cond-true (ltb s 64) (length_refusal (option_map (λ t. t.limit) (m.session s)) (room s) (reach s) n) (Some NoSuchSession) low.0

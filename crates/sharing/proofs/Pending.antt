@@ -203,11 +203,11 @@ module _ (x : Meaning) (why : Option Refusal) (y : Meaning) where
   -- an opening gives the session its terms, and they stay
   pub agrees : {c : Call} {a : Answer} → General x why y c a → (s : ℕ) → latest (opened_by s c a) (terms_at x s) ≡ terms_at y s
   agrees (opens {s = n} {weight = w} {limit = l} none to) s =
-      latest-cond (eqb n s) _ _ ∙ sym (open_terms x n w l s) ∙ ap (λ m. terms_at m s) (sym to)
+      latest_cond (eqb n s) _ _ ∙ sym (open_terms x n w l s) ∙ ap (λ m. terms_at m s) (sym to)
     where
-      latest-cond : (b : Bool) (t : Terms) (o : Option Terms) → latest (cond b (Some t) None) o ≡ cond b (Some t) o
-      latest-cond true t o = refl
-      latest-cond false t o = refl
+      latest_cond : (b : Bool) (t : Terms) (o : Option Terms) → latest (cond b (Some t) None) o ≡ cond b (Some t) o
+      latest_cond true t o = refl
+      latest_cond false t o = refl
   agrees (enters {s = n} none to) s = sym (enter_terms x n _ s) ∙ ap (λ m. terms_at m s) (sym to)
   agrees (starts {s = n} {first = p} none first to) s = sym (start_terms x n p s) ∙ ap (λ m. terms_at m s) (sym to)
   agrees (finishes {s = n} {packet = p} none is to) s = sym (finish_terms x n p s) ∙ ap (λ m. terms_at m s) (sym to)

@@ -93,9 +93,9 @@ module _ (x y : Clocked) (sound : Sound x) where
         last = x.last k;
         pending = pending m k;
       } in
-      let terms-path = ap (λ k. terms_at k s) to ∙ open_terms m n w l s in
-      let pending-path = ap (λ k. pending k s) to ∙ open_pending m n w l may.was_closed s in
-      let at : view s y ≡ new s (eqb n s) = λ i. record { clock = o.clock i; terms = terms-path i; last = o.last i s; pending = pending-path i } in
+      let terms_path = ap (λ k. terms_at k s) to ∙ open_terms m n w l s in
+      let pending_path = ap (λ k. pending k s) to ∙ open_pending m n w l may.was_closed s in
+      let at : view s y ≡ new s (eqb n s) = λ i. record { clock = o.clock i; terms = terms_path i; last = o.last i s; pending = pending_path i } in
       onto at
       (by_session (λ k b. Changes k false (view k x) (new k b) []) n
       (change.opens may.number may.weighs may.weight_fits was ((sound.each n).empty (ap weight_in was)))
@@ -113,9 +113,9 @@ module _ (x y : Clocked) (sound : Sound x) where
       let new : ℕ → Bool → View = λ k b.
       record { clock = x.clock; terms = terms_at m k; last = cond b p.mark (x.last k); pending = pending m k ++ cond b (p ∷ []) [] }
       in
-      let terms-path = ap (λ k. terms_at k s) to ∙ enter_terms m n p s in
-      let pending-path = ap (λ k. pending k s) to ∙ enter_pending m n p may.session may.is_open s in
-      let at : view s y ≡ new s (eqb n s) = λ i. record { clock = o.clock i; terms = terms-path i; last = o.last i s; pending = pending-path i } in
+      let terms_path = ap (λ k. terms_at k s) to ∙ enter_terms m n p s in
+      let pending_path = ap (λ k. pending k s) to ∙ enter_pending m n p may.session may.is_open s in
+      let at : view s y ≡ new s (eqb n s) = λ i. record { clock = o.clock i; terms = terms_path i; last = o.last i s; pending = pending_path i } in
       let same : (k : ℕ) → new k false ≡ view k x = λ k i.
       record { clock = x.clock; terms = terms_at m k; last = x.last k; pending = append-nil (pending m k) i }
       in
@@ -133,10 +133,10 @@ module _ (x y : Clocked) (sound : Sound x) where
       let good = sound.each n in
       let up : x.clock ≤ p.mark = first_ahead _ _ _ _ good.tag (pending m n) p rest (all-wait n ∙ first) good.tagged in
       let least : Ahead p.mark (pending m s) = ahead p.mark (pending m s) (λ q qs e. o.smallest s q qs (sym (all-wait s) ∙ e)) in
-      let terms-path = ap (λ k. terms_at k s) to ∙ start_terms m n p s in
-      let pending-path = ap (λ k. pending k s) to ∙ start_pending m n p rest free first s in
+      let terms_path = ap (λ k. terms_at k s) to ∙ start_terms m n p s in
+      let pending_path = ap (λ k. pending k s) to ∙ start_pending m n p rest free first s in
       let at : view s y ≡ record { clock = p.mark; terms = terms_at m s; last = x.last s; pending = pending m s } =
-      λ i. record { clock = o.clock i; terms = terms-path i; last = o.last i s; pending = pending-path i }
+      λ i. record { clock = o.clock i; terms = terms_path i; last = o.last i s; pending = pending_path i }
       in
       onto at (change.rises up least)
 
@@ -148,18 +148,18 @@ module _ (x y : Clocked) (sound : Sound x) where
       m : Meaning
       m = x.meaning
 
-      terms-path : (s : ℕ) → terms_at y.meaning s ≡ terms_at x.meaning s
-      terms-path s = ap (λ k. terms_at k s) to ∙ finish_terms x.meaning n p s
+      terms_path : (s : ℕ) → terms_at y.meaning s ≡ terms_at x.meaning s
+      terms_path s = ap (λ k. terms_at k s) to ∙ finish_terms x.meaning n p s
 
-      pending-path : (s : ℕ) → pending x.meaning s ≡ packet_of s n p ++ pending y.meaning s
-      pending-path s = finish_pending x.meaning n p is s ∙ ap (λ k. packet_of s n p ++ pending k s) (sym to)
+      pending_path : (s : ℕ) → pending x.meaning s ≡ packet_of s n p ++ pending y.meaning s
+      pending_path s = finish_pending x.meaning n p is s ∙ ap (λ k. packet_of s n p ++ pending k s) (sym to)
 
-      at-clock : p.mark ≡ x.clock
-      at-clock = subst (Holds x.clock) is sound.held
+      at_clock : p.mark ≡ x.clock
+      at_clock = subst (Holds x.clock) is sound.held
 
       ends : (s : ℕ) (b : Bool) (q : List Packet) → pending x.meaning s ≡ cond b (p ∷ []) [] ++ q →
           Changes s false (view s x) (record { clock = x.clock; terms = terms_at x.meaning s; last = x.last s; pending = q }) (cond b (p ∷ []) [])
-      ends s true q e = change.ends e at-clock
+      ends s true q e = change.ends e at_clock
       ends s false q e =
           let at : record { clock = x.clock; terms = terms_at x.meaning s; last = x.last s; pending = q } ≡ view s x =
           λ i. record { clock = x.clock; terms = terms_at x.meaning s; last = x.last s; pending = sym e i }
@@ -174,11 +174,11 @@ module _ (x y : Clocked) (sound : Sound x) where
             let empty : pending y.meaning s ≡ [] =
             ap (λ k. pending k s) to ∙ finish_waiting m n p s ∙ none_waits x sound (eqb-true (all_waiting m) 0 none) s
             in
-            let all : pending m s ≡ packet_of s n p = pending-path s ∙ ap (λ l. packet_of s n p ++ l) empty ∙ append-nil (packet_of s n p) in
+            let all : pending m s ≡ packet_of s n p = pending_path s ∙ ap (λ l. packet_of s n p ++ l) empty ∙ append-nil (packet_of s n p) in
             let clock-path = o.clock ∙ ap (λ b. cond b 0 x.clock) none in
             let last-path = ap (λ f. f s) o.last ∙ ap (λ b. cond b 0 (x.last s)) none in
             let at : view s y ≡ record { clock = 0; terms = terms_at m s; last = 0; pending = [] } =
-            λ i. record { clock = clock-path i; terms = terms-path s i; last = last-path i; pending = empty i }
+            λ i. record { clock = clock-path i; terms = terms_path s i; last = last-path i; pending = empty i }
             in
             onto at (subst (λ l. Changes s true (view s x) (record { clock = 0; terms = terms_at m s; last = 0; pending = [] }) l) all change.clears),
       )
@@ -188,9 +188,9 @@ module _ (x y : Clocked) (sound : Sound x) where
             let clock-path = o.clock ∙ ap (λ b. cond b 0 x.clock) some in
             let last-path = ap (λ f. f s) o.last ∙ ap (λ b. cond b 0 (x.last s)) some in
             let at : view s y ≡ record { clock = x.clock; terms = terms_at m s; last = x.last s; pending = pending y.meaning s } =
-            λ i. record { clock = clock-path i; terms = terms-path s i; last = last-path i; pending = pending y.meaning s }
+            λ i. record { clock = clock-path i; terms = terms_path s i; last = last-path i; pending = pending y.meaning s }
             in
-            onto at (ends s (eqb n s) (pending y.meaning s) (pending-path s)),
+            onto at (ends s (eqb n s) (pending y.meaning s) (pending_path s)),
       )
 
   refuses_change : y.meaning ≡ x.meaning → Refuses x y → (s : ℕ) → Changes s false (view s x) (view s y) []

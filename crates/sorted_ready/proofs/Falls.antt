@@ -32,44 +32,44 @@ module _ (table : List Entry) (n : ℕ) (within : n ≤ length table) where
   read k l = get_or-take n table k (0, 0) l
 
   module _ (xs : Tags) (once : EachOnce (take n table) xs) where
-    last-tag : 0 < n → tag_of xs (entry_at table (n - 1)).1 ≡ Some (entry_at table (n - 1)).0
-    last-tag l = subst (λ (e : Entry). tag_of xs e.1 ≡ Some e.0) (read (n - 1) (omega arith)) (once_tag (take n table) xs once (n - 1) (omega (arith, long)))
+    last_tag : 0 < n → tag_of xs (entry_at table (n - 1)).1 ≡ Some (entry_at table (n - 1)).0
+    last_tag l = subst (λ (e : Entry). tag_of xs e.1 ≡ Some e.0) (read (n - 1) (omega arith)) (once_tag (take n table) xs once (n - 1) (omega (arith, long)))
 
     -- the last is the least
-    last-least : Falling (take n table) → IsLeast xs (last_of table n)
-    last-least falling =
+    last_least : Falling (take n table) → IsLeast xs (last_of table n)
+    last_least falling =
         cond_both (ltb 0 n) (Some (entry_at table (n - 1))) None (IsLeast xs)
         (λ y. let some = ltb-true 0 n y in (
-          last-tag some,
+          last_tag some,
           λ s t o. let at = once_place (take n table) xs once t s o in
               let i : at.0 < n = omega (arith, long) in
               at_most_of (sym (read (n - 1) (omega arith))) (sym at.2) (at_most_before (take n table) falling (n - 1 - at.0) at.0 (n - 1) (omega arith) (omega (arith, long))),
         ))
         (λ no s t o. let none = ltb-false 0 n no in let at = once_place (take n table) xs once t s o in omega (arith, long))
 
-    pub last-answer : Falling (take n table) → (r : Option Entry) → r ≡ last_of table n → r ≡ least_of xs
-    last-answer falling r is = is ∙ equals_least xs (last_of table n) (last-least falling)
+    pub last_answer : Falling (take n table) → (r : Option Entry) → r ≡ last_of table n → r ≡ least_of xs
+    last_answer falling r is = is ∙ equals_least xs (last_of table n) (last_least falling)
 
     -- where there is a last, it has its tag, and without it the others are left
     module _ (e : Entry) (is : Some e ≡ last_of table n) where
       pub some : 0 < n
       some = grind (arith, nat_tests)
 
-      last-is : e ≡ entry_at table (n - 1)
-      last-is = grind (arith, nat_tests)
+      last_is : e ≡ entry_at table (n - 1)
+      last_is = grind (arith, nat_tests)
 
-      pub tag-of-last : tag_of xs e.1 ≡ Some e.0
-      tag-of-last = subst (λ (x : Entry). tag_of xs x.1 ≡ Some x.0) (sym last-is) (last-tag some)
+      pub tag_of_last : tag_of xs e.1 ≡ Some e.0
+      tag_of_last = subst (λ (x : Entry). tag_of xs x.1 ≡ Some x.0) (sym last_is) (last_tag some)
 
       one_less : (t s : ℕ) → sum_by (λ x. bit (is_entry t s x)) (take (n - 1) table) + bit (is_entry t s e) ≡ sum_by (λ x. bit (is_entry t s x)) (take n table)
       one_less t s =
           let m : n - 1 + 1 ≡ n = omega (arith, some) in
-          ap (λ (x : Entry). sum_by (λ y. bit (is_entry t s y)) (take (n - 1) table) + bit (is_entry t s x)) last-is
+          ap (λ (x : Entry). sum_by (λ y. bit (is_entry t s y)) (take (n - 1) table) + bit (is_entry t s x)) last_is
           ∙ sym (sum_by_more (λ x. bit (is_entry t s x)) table (n - 1) (0, 0) (omega (arith, some)))
           ∙ ap (λ (k : ℕ). sum_by (λ x. bit (is_entry t s x)) (take k table)) m
 
-      pub shorter-once : EachOnce (take (n - 1) table) (set xs e.1 None)
-      shorter-once = once_dropped (take n table) (take (n - 1) table) xs e tag-of-last one_less once
+      pub shorter_once : EachOnce (take (n - 1) table) (set xs e.1 None)
+      shorter_once = once_dropped (take n table) (take (n - 1) table) xs e tag_of_last one_less once
 
 -- fewer are in order too
 pub shorter_falling : (table : List Entry) (n : ℕ) → n ≤ length table → Falling (take n table) → Falling (take (n - 1) table)

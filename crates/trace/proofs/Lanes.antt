@@ -77,26 +77,26 @@ module _ (s : ℕ) (xs : List ℕ) (p : ℕ) (room : p + 16 ≤ length xs) (pass
         let all : before s window ≡ 16 = leading_from_mask_l (λ x. eqb x s) window (sym is ∙ zero_is) ∙ window_long in
         none_before 16 (omega arith) (subst (λ k. (j : ℕ) → j < k → get_or window j 0 ≡ s → ⊥) all (before_first s window).none)
 
-    some-before : 0 < mask → before s window < 16
-    some-before some = ⊎_elim (λ less. less) (λ more. absurd (no more)) (cases_lt (before s window) 16)
+    some_before : 0 < mask → before s window < 16
+    some_before some = ⊎_elim (λ less. less) (λ more. absurd (no more)) (cases_lt (before s window) 16)
       where
         no : 16 ≤ before s window → ⊥
         no more =
             let all : before s window ≡ length window = omega (arith, prefix_len-le-length (λ x. not (eqb x s)) window, window_long) in
             omega (arith, none_set s window all)
 
-    trailing-is : 0 < mask → count_trailing_zeros 64 mask ≡ before s window
-    trailing-is some = ap (count_trailing_zeros 64) is ∙ trailing_mask_l (λ x. eqb x s) 64 window (omega (arith, window_long)) (omega (arith, is))
+    trailing_is : 0 < mask → count_trailing_zeros 64 mask ≡ before s window
+    trailing_is some = ap (count_trailing_zeros 64) is ∙ trailing_mask_l (λ x. eqb x s) 64 window (omega (arith, window_long)) (omega (arith, is))
 
-    pub first-within : 0 < mask → count_trailing_zeros 64 mask < 16
-    first-within some = omega (arith, trailing-is some, some-before some)
+    pub first_within : 0 < mask → count_trailing_zeros 64 mask < 16
+    first_within some = omega (arith, trailing_is some, some_before some)
 
     pub none_ahead : 0 < mask → (i : ℕ) → i < p + count_trailing_zeros 64 mask → get_or xs i 0 ≡ s → ⊥
     none_ahead some =
-        subst (λ k. (i : ℕ) → i < p + k → get_or xs i 0 ≡ s → ⊥) (sym (trailing-is some))
-        (none_before (before s window) (omega (arith, some-before some)) (before_first s window).none)
+        subst (λ k. (i : ℕ) → i < p + k → get_or xs i 0 ≡ s → ⊥) (sym (trailing_is some))
+        (none_before (before s window) (omega (arith, some_before some)) (before_first s window).none)
 
-    pub first-here : 0 < mask → get_or xs (p + count_trailing_zeros 64 mask) 0 ≡ s
-    first-here some =
-        subst (λ k. get_or xs (p + k) 0 ≡ s) (sym (trailing-is some))
-        (sym (window_at (before s window) (some-before some)) ∙ (before_first s window).here (omega (arith, window_long, some-before some)))
+    pub first_here : 0 < mask → get_or xs (p + count_trailing_zeros 64 mask) 0 ≡ s
+    first_here some =
+        subst (λ k. get_or xs (p + k) 0 ≡ s) (sym (trailing_is some))
+        (sym (window_at (before s window) (some_before some)) ∙ (before_first s window).here (omega (arith, window_long, some_before some)))

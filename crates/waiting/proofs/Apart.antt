@@ -8,8 +8,8 @@ use Rattle.waiting.specs.declared.place.Queue.{Queue}
 use Rattle.waiting.specs.declared.table.Waiting.{Waiting}
 use Rattle.waiting.specs.Chains.{empty_queue, header, queue_chain, occurrences}
 use Rattle.waiting.specs.Invariants.{free_chain}
-use Rattle.waiting.proofs.Linking.{total-length-bound, length_chain}
-use Rattle.waiting.proofs.Updates.{two-of-sum}
+use Rattle.waiting.proofs.Linking.{total_length_bound, length_chain}
+use Rattle.waiting.proofs.Updates.{two_of_sum}
 
 module _ (w : Waiting) where
   abbrev ps : List Place
@@ -31,7 +31,7 @@ module _ (w : Waiting) where
       omega (
         arith,
         w.lengths s,
-        total-length-bound ps w.sizes (queue_chain ps q),
+        total_length_bound ps w.sizes (queue_chain ps q),
         ap (λ n. n * 2 ^ 32) (length_chain ps q.head q.count),
       )
 
@@ -49,16 +49,16 @@ module _ (w : Waiting) where
       (cases_lt k 64)
 
   -- a place of one queue is in no other
-  pub in-no-other-queue :
+  pub in_no_other_queue :
       (i s : ℕ) → s < 64 → 1 ≤ occurrences i (queue_chain ps (header w.chains s)) → (k : ℕ) → (k ≡ s → ⊥) →
       occurrences i (queue_chain ps (header w.chains k)) ≡ 0
-  in-no-other-queue i s low on k ne =
+  in_no_other_queue i s low on k ne =
       ⊎_elim
       (λ (lt : k < 64).
       omega (
         arith,
         w.once i,
-        two-of-sum (λ q. occurrences i (queue_chain ps q)) qs k s empty_queue (omega (arith, w.queues)) (omega (arith, w.queues)) ne,
+        two_of_sum (λ q. occurrences i (queue_chain ps q)) qs k s empty_queue (omega (arith, w.queues)) (omega (arith, w.queues)) ne,
       ))
       (λ (past : 64 ≤ k). ap (λ q. occurrences i (queue_chain ps q)) (header_past k past))
       (cases_lt k 64)

@@ -9,7 +9,7 @@ use Rattle.waiting.specs.declared.table.Waiting.{Waiting}
 use Rattle.waiting.specs.Chains.{empty_queue, place_of, header, chain, queue_chain, packets, total_length, occurrences, last_or}
 use Rattle.waiting.specs.Invariants.{LinksWithin, HeadsWithin, TailsWithin, LengthsWithin, TailsLast, LengthsSummed, CountsSummed, free_chain, NoPlaceTwice}
 use Rattle.waiting.specs.Queues.{queue_in}
-use Rattle.waiting.proofs.Updates.{each_set, sum-changed}
+use Rattle.waiting.proofs.Updates.{each_set, sum_changed}
 
 -- a change at the queue of session s: its header becomes q, and the places, the first free place and the number of used places these
 pub record Change (w : Waiting) (s : ℕ) (ps : List Place) (q : Queue) (free used : ℕ) : Type 0 where
@@ -23,13 +23,13 @@ pub record Change (w : Waiting) (s : ℕ) (ps : List Place) (q : Queue) (free us
   pub lengths : q.lengths ≡ total_length (packets ps (queue_chain ps q))
   pub count : used + (header w.chains s).count ≡ w.chains.used + q.count
   pub within : used ≤ 256
-  pub other-chains :
+  pub other_chains :
       (k : ℕ) → (k ≡ s → ⊥) → queue_chain ps (header w.chains k) ≡ queue_chain w.chains.places (header w.chains k)
-  pub other-packets :
+  pub other_packets :
       (k : ℕ) → (k ≡ s → ⊥) →
       packets ps (queue_chain w.chains.places (header w.chains k)) ≡ queue_in w.chains k
   -- the free places and those of this queue are together what they were
-  pub same-places :
+  pub same_places :
       (i : ℕ) →
       occurrences i (chain ps free (256 - used)) + occurrences i (queue_chain ps q) ≡
       occurrences i (free_chain w.chains) + occurrences i (queue_chain w.chains.places (header w.chains s))
@@ -58,7 +58,7 @@ module _ {w : Waiting} {s : ℕ} {ps : List Place} {q : Queue} {free used : ℕ}
   at = omega (arith, w.queues)
 
   others_stay : (k : ℕ) → (k ≡ s → ⊥) → packets ps (queue_chain ps (header w.chains k)) ≡ queue_in w.chains k
-  others_stay k ne = ap (packets ps) (change.other-chains k ne) ∙ change.other-packets k ne
+  others_stay k ne = ap (packets ps) (change.other_chains k ne) ∙ change.other_packets k ne
 
   heads : HeadsWithin changed
   heads = each_set (λ (h : Queue). h.head < 256) qs s q empty_queue at change.head (λ k ne. w.heads k)
@@ -69,7 +69,7 @@ module _ {w : Waiting} {s : ℕ} {ps : List Place} {q : Queue} {free used : ℕ}
   lasts : TailsLast changed
   lasts =
       each_set (λ (h : Queue). h.tail ≡ last_or h.tail (queue_chain ps h)) qs s q empty_queue at change.last
-      (λ k ne. w.lasts k ∙ ap (last_or (header w.chains k).tail) (sym (change.other-chains k ne)))
+      (λ k ne. w.lasts k ∙ ap (last_or (header w.chains k).tail) (sym (change.other_chains k ne)))
 
   lengths : LengthsSummed changed
   lengths =
@@ -84,9 +84,9 @@ module _ {w : Waiting} {s : ℕ} {ps : List Place} {q : Queue} {free used : ℕ}
       omega (
         arith,
         w.once i,
-        change.same-places i,
-        sum-changed (λ h. occurrences i (queue_chain w.chains.places h)) (λ h. occurrences i (queue_chain ps h)) qs s q empty_queue at
-            (λ k lt ne. ap (occurrences i) (change.other-chains k ne)),
+        change.same_places i,
+        sum_changed (λ h. occurrences i (queue_chain w.chains.places h)) (λ h. occurrences i (queue_chain ps h)) qs s q empty_queue at
+            (λ k lt ne. ap (occurrences i) (change.other_chains k ne)),
       )
 
   pub change_keeps : Ghosts changed

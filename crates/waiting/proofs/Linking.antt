@@ -47,23 +47,23 @@ chain_cons ps i (suc n) some =
     let e : n ≡ suc n - 1 = omega arith in ap (λ m. i ∷ chain ps (place_of ps i).next m) e
 
 -- a write to a place that is not on a chain leaves it
-pub chain-stays :
+pub chain_stays :
     (ps : List Place) (p : ℕ) (x : Place) (i n : ℕ) → occurrences p (chain ps i n) ≡ 0 → chain (set ps p x) i n ≡ chain ps i n
-chain-stays ps p x i zero off = refl
-chain-stays ps p x i (suc n) off =
+chain_stays ps p x i zero off = refl
+chain_stays ps p x i (suc n) off =
     let next : ℕ = (place_of ps i).next in
     let here : place_of (set ps p x) i ≡ place_of ps i = other_place ps p x i (absent_first p i (chain ps next n) off) in
-    let rest : chain (set ps p x) next n ≡ chain ps next n = chain-stays ps p x next n (omega arith) in
+    let rest : chain (set ps p x) next n ≡ chain ps next n = chain_stays ps p x next n (omega arith) in
     ap (λ ks. i ∷ ks) (ap (λ (q : Place). chain (set ps p x) q.next n) here ∙ rest)
 
 -- a write to the last place of a chain adds the place that it names
-pub chain-extends :
+pub chain_extends :
     (ps : List Place) (t : ℕ) (x : Place) (i n : ℕ) → t < length ps → t ≡ last_or t (chain ps i (suc n)) →
     occurrences t (chain ps i (suc n)) ≤ 1 → chain (set ps t x) i (suc (suc n)) ≡ chain ps i (suc n) ++ (x.next ∷ [])
-chain-extends ps t x i zero within last once =
+chain_extends ps t x i zero within last once =
     let here : place_of (set ps t x) i ≡ x = subst (λ k. place_of (set ps t x) k ≡ x) last (this_place ps t x within) in
     ap (λ (q : Place). i ∷ (q.next ∷ [])) here
-chain-extends ps t x i (suc n) within last once =
+chain_extends ps t x i (suc n) within last once =
     let next : ℕ = (place_of ps i).next in
     let on : 1 ≤ occurrences t (chain ps next (suc n)) =
     subst (λ k. 1 ≤ occurrences k (chain ps next (suc n))) (sym last) (last_occurs i next (chain ps (place_of ps next).next n))
@@ -71,24 +71,24 @@ chain-extends ps t x i (suc n) within last once =
     let ne : i ≡ t → ⊥ = λ e. omega (arith, occurs_first t i (chain ps next (suc n)) e) in
     let here : place_of (set ps t x) i ≡ place_of ps i = other_place ps t x i ne in
     let rest : chain (set ps t x) next (suc (suc n)) ≡ chain ps next (suc n) ++ (x.next ∷ []) =
-    chain-extends ps t x next n within last (omega arith)
+    chain_extends ps t x next n within last (omega arith)
     in
     ap (λ ks. i ∷ ks) (ap (λ (q : Place). chain (set ps t x) q.next (suc (suc n))) here ∙ rest)
 
 -- ---- what the places of a list hold
-pub packets-stay :
+pub packets_stay :
     (ps : List Place) (p : ℕ) (x : Place) (is : List ℕ) → occurrences p is ≡ 0 → packets (set ps p x) is ≡ packets ps is
-packets-stay ps p x [] off = refl
-packets-stay ps p x (i ∷ is) off =
+packets_stay ps p x [] off = refl
+packets_stay ps p x (i ∷ is) off =
     let here : place_of (set ps p x) i ≡ place_of ps i = other_place ps p x i (absent_first p i is off) in
-    let rest : packets (set ps p x) is ≡ packets ps is = packets-stay ps p x is (omega arith) in
+    let rest : packets (set ps p x) is ≡ packets ps is = packets_stay ps p x is (omega arith) in
     ap (λ (q : Place). q.packet ∷ packets (set ps p x) is) here ∙ ap (λ qs. (place_of ps i).packet ∷ qs) rest
 
 -- a write that leaves the packet leaves all packets
-pub packet-kept :
+pub packet_kept :
     (ps : List Place) (p : ℕ) (x : Place) → p < length ps → x.packet ≡ (place_of ps p).packet → (i : ℕ) →
     (place_of (set ps p x) i).packet ≡ (place_of ps i).packet
-packet-kept ps p x within same i =
+packet_kept ps p x within same i =
     ⊎_elim
     (λ (e : i ≡ p).
     subst (λ k. (place_of (set ps p x) k).packet ≡ (place_of ps k).packet) (sym e)
@@ -96,11 +96,11 @@ packet-kept ps p x within same i =
     (λ (ne : i ≡ p → ⊥). ap (λ (q : Place). q.packet) (other_place ps p x i ne))
     (cases_eq i p)
 
-pub packets-same :
+pub packets_same :
     (ps qs : List Place) → ((i : ℕ) → (place_of ps i).packet ≡ (place_of qs i).packet) → (is : List ℕ) → packets ps is ≡ packets qs is
-packets-same ps qs same [] = refl
-packets-same ps qs same (i ∷ is) =
-    ap (λ p. p ∷ packets ps is) (same i) ∙ ap (λ rest. (place_of qs i).packet ∷ rest) (packets-same ps qs same is)
+packets_same ps qs same [] = refl
+packets_same ps qs same (i ∷ is) =
+    ap (λ p. p ∷ packets ps is) (same i) ∙ ap (λ rest. (place_of qs i).packet ∷ rest) (packets_same ps qs same is)
 
 pub length_packets : (ps : List Place) (is : List ℕ) → length (packets ps is) ≡ length is
 length_packets ps [] = refl
@@ -115,7 +115,7 @@ pub total_length_push : (qs : List Packet) (q : Packet) → total_length (qs ++ 
 total_length_push [] q = omega arith
 total_length_push (r ∷ qs) q = omega (arith, total_length_push qs q)
 
-pub total-length-bound :
+pub total_length_bound :
     (ps : List Place) → ((i : ℕ) → (place_of ps i).packet.length < 2 ^ 32) → (is : List ℕ) → total_length (packets ps is) ≤ length is * 2 ^ 32
-total-length-bound ps sizes [] = omega arith
-total-length-bound ps sizes (i ∷ is) = omega (arith, sizes i, total-length-bound ps sizes is)
+total_length_bound ps sizes [] = omega arith
+total_length_bound ps sizes (i ∷ is) = omega (arith, sizes i, total_length_bound ps sizes is)

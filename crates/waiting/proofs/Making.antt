@@ -30,20 +30,20 @@ linked_below_none k =
     ∙ ap (λ n. record { packet = empty_place.packet; next = n }) (sym (cond-false {A = ℕ} (ltb k 0) (k + 1) 0 (le-ltb k 0 (omega arith))))
 
 -- ---- a chain that goes up has each place once, and none below its start
-rising-once :
+rising_once :
     (ps : List Place) (n a : ℕ) → ((k : ℕ) → k + 1 < a + n → (place_of ps k).next ≡ k + 1) → (i : ℕ) →
     (occurrences i (chain ps a n) ≤ 1) × (i < a → occurrences i (chain ps a n) ≡ 0)
-rising-once ps zero a up i = (omega arith, λ below. refl)
-rising-once ps (suc zero) a up i =
+rising_once ps zero a up i = (omega arith, λ below. refl)
+rising_once ps (suc zero) a up i =
     ⊎_elim
     (λ (e : a ≡ i). let one = occurs_first i a [] e in (omega arith, λ below. omega arith))
     (λ (ne : a ≡ i → ⊥).
     let none : cond {A = ℕ} (eqb a i) 1 0 ≡ 0 = cond-false {A = ℕ} (eqb a i) 1 0 (ne_eqb a i ne) in
     (omega arith, λ below. omega arith))
     (cases_eq a i)
-rising-once ps (suc (suc n)) a up i =
+rising_once ps (suc (suc n)) a up i =
     let next : (place_of ps a).next ≡ a + 1 = up a (omega arith) in
-    let rest = rising-once ps (suc n) (a + 1) (λ k lt. up k (omega arith)) i in
+    let rest = rising_once ps (suc n) (a + 1) (λ k lt. up k (omega arith)) i in
     let same : occurrences i (chain ps (place_of ps a).next (suc n)) ≡ occurrences i (chain ps (a + 1) (suc n)) =
     ap (λ j. occurrences i (chain ps j (suc n))) next
     in
@@ -58,13 +58,13 @@ rising-once ps (suc (suc n)) a up i =
     (cases_eq a i)
 
 -- n free places, and m queues with no packet
-all-free-once :
+all_free_once :
     (ps : List Place) (n m : ℕ) → ((k : ℕ) → k + 1 < n → (place_of ps k).next ≡ k + 1) → (i : ℕ) →
     occurrences i (chain ps 0 n) + sum_by (λ (q : Queue). occurrences i (queue_chain ps q)) (replicate m empty_queue) ≤ 1
-all-free-once ps n m up i =
+all_free_once ps n m up i =
     omega (
       arith,
-      (rising-once ps n 0 (λ k lt. up k (omega arith)) i).0,
+      (rising_once ps n 0 (λ k lt. up k (omega arith)) i).0,
       sum_repeated (λ (q : Queue). occurrences i (queue_chain ps q)) m empty_queue refl,
     )
 
@@ -108,7 +108,7 @@ module _ (ps : List Place) (linked : LinkedBelow 255 ps) where
                       each_queue (λ q. q.lengths ≡ total_length (packets ps (queue_chain ps q))) refl,
                       (
                         sym (sum_repeated (λ (q : Queue). q.count) 64 empty_queue refl),
-                        (all-free-once ps 256 64 next_up, tt),
+                        (all_free_once ps 256 64 next_up, tt),
                       ),
                     ),
                   ),

@@ -36,10 +36,10 @@ module _ (w : Waiting) where
   pub queue_past : (s : ℕ) → 64 ≤ s → queue w s ≡ []
   queue_past s past = queue_none s (ap (λ q. q.count) (header_past w s past))
 
-  pub queue-first :
+  pub queue_first :
       (s : ℕ) → 0 < (header w.chains s).count → first_of (queue w s) ≡ Some (place_of ps (header w.chains s).head).packet
   unfolding queue
-  queue-first s some = ap (λ is. first_of (packets ps is)) (chain_cons ps (header w.chains s).head (header w.chains s).count some)
+  queue_first s some = ap (λ is. first_of (packets ps is)) (chain_cons ps (header w.chains s).head (header w.chains s).count some)
 
   pub describes : (s : ℕ) → s < 64 → Describes w s (header w.chains s)
   describes s low =
@@ -54,7 +54,7 @@ module _ (w : Waiting) where
             (λ none. sym (ap first_of (queue_none s (eqb-true (header w.chains s).count 0 none))))
             (λ some.
             let ne : (header w.chains s).count ≡ 0 → ⊥ = eqb-false (header w.chains s).count 0 some in
-            sym (queue-first s (omega arith)));
+            sym (queue_first s (omega arith)));
       }
 
   counted :

@@ -14,11 +14,11 @@ sum_below_same zero f g same = refl
 sum_below_same (suc n) f g same = omega (arith, sum_below_same n f g (λ k lt. same k (omega arith)), same n (omega arith))
 
 -- one term changes
-pub sum-below-changed :
+pub sum_below_changed :
     (n : ℕ) (f g : ℕ → ℕ) (s : ℕ) → s < n → ((k : ℕ) → (k ≡ s → ⊥) → g k ≡ f k) → sum_below n g + f s ≡ sum_below n f + g s
 unfolding sum_below
-sum-below-changed zero f g s low same = let no : ⊥ = omega arith in absurd no
-sum-below-changed (suc n) f g s low same =
+sum_below_changed zero f g s low same = let no : ⊥ = omega arith in absurd no
+sum_below_changed (suc n) f g s low same =
     ⊎_elim
     (λ (e : n ≡ s).
     let below : sum_below n g ≡ sum_below n f = sum_below_same n f g (λ k lt. same k (λ is. omega arith)) in
@@ -26,7 +26,7 @@ sum-below-changed (suc n) f g s low same =
     let there : g n ≡ g s = ap g e in
     omega arith)
     (λ (ne : n ≡ s → ⊥).
-    let below : sum_below n g + f s ≡ sum_below n f + g s = sum-below-changed n f g s (omega arith) same in
+    let below : sum_below n g + f s ≡ sum_below n f + g s = sum_below_changed n f g s (omega arith) same in
     let here : g n ≡ f n = same n ne in
     omega arith)
     (cases_eq n s)

@@ -22,27 +22,27 @@ module _ {X : Type 0} where
       let rest : sum_by g xs ≡ sum_by f xs = sum_same f g xs d (λ k lt. same (suc k) (suc-le-suc lt)) in
       omega (arith, sum_by-cons g x xs, sum_by-cons f x xs)
 
-  pub sum-changed :
+  pub sum_changed :
       (f g : X → ℕ) (xs : List X) (s : ℕ) (y d : X) → s < length xs →
       ((k : ℕ) → k < length xs → (k ≡ s → ⊥) → g (get_or xs k d) ≡ f (get_or xs k d)) → sum_by g (set xs s y) + f (get_or xs s d) ≡ sum_by f xs + g y
-  sum-changed f g [] s y d within same = let no : ⊥ = omega arith in absurd no
-  sum-changed f g (x ∷ xs) zero y d within same =
+  sum_changed f g [] s y d within same = let no : ⊥ = omega arith in absurd no
+  sum_changed f g (x ∷ xs) zero y d within same =
       let rest : sum_by g xs ≡ sum_by f xs = sum_same f g xs d (λ k lt. same (suc k) (suc-le-suc lt) (λ e. omega arith)) in
       omega (arith, sum_by-cons g y xs, sum_by-cons f x xs)
-  sum-changed f g (x ∷ xs) (suc s) y d within same =
+  sum_changed f g (x ∷ xs) (suc s) y d within same =
       let here : g x ≡ f x = same zero (omega arith) (λ e. omega arith) in
       let rest : sum_by g (set xs s y) + f (get_or xs s d) ≡ sum_by f xs + g y =
-      sum-changed f g xs s y d (omega arith) (λ k lt ne. same (suc k) (suc-le-suc lt) (λ e. ne (omega arith)))
+      sum_changed f g xs s y d (omega arith) (λ k lt ne. same (suc k) (suc-le-suc lt) (λ e. ne (omega arith)))
       in
       omega (arith, sum_by-cons g x (set xs s y), sum_by-cons f x xs)
 
   -- two elements are at most the sum
-  pub two-of-sum :
+  pub two_of_sum :
       (f : X → ℕ) (xs : List X) (i j : ℕ) (d : X) → i < length xs → j < length xs → (i ≡ j → ⊥) →
       f (get_or xs i d) + f (get_or xs j d) ≤ sum_by f xs
-  two-of-sum f [] i j d li lj ne = let no : ⊥ = omega arith in absurd no
-  two-of-sum f (x ∷ xs) zero zero d li lj ne = absurd (ne refl)
-  two-of-sum f (x ∷ xs) zero (suc j) d li lj ne = omega (arith, sum_by-cons f x xs, get_or-le-sum_by f xs j d (omega arith))
-  two-of-sum f (x ∷ xs) (suc i) zero d li lj ne = omega (arith, sum_by-cons f x xs, get_or-le-sum_by f xs i d (omega arith))
-  two-of-sum f (x ∷ xs) (suc i) (suc j) d li lj ne =
-      omega (arith, sum_by-cons f x xs, two-of-sum f xs i j d (omega arith) (omega arith) (λ e. ne (omega arith)))
+  two_of_sum f [] i j d li lj ne = let no : ⊥ = omega arith in absurd no
+  two_of_sum f (x ∷ xs) zero zero d li lj ne = absurd (ne refl)
+  two_of_sum f (x ∷ xs) zero (suc j) d li lj ne = omega (arith, sum_by-cons f x xs, get_or-le-sum_by f xs j d (omega arith))
+  two_of_sum f (x ∷ xs) (suc i) zero d li lj ne = omega (arith, sum_by-cons f x xs, get_or-le-sum_by f xs i d (omega arith))
+  two_of_sum f (x ∷ xs) (suc i) (suc j) d li lj ne =
+      omega (arith, sum_by-cons f x xs, two_of_sum f xs i j d (omega arith) (omega arith) (λ e. ne (omega arith)))

@@ -7,7 +7,7 @@ use Rattle.calls.specs.declared.refusal.Refusal.{Refusal}
 use Rattle.calls.specs.declared.refusal.Refusal.TheVariants.{NoSuchSession, Full}
 use Rattle.waiting.specs.declared.table.Waiting.{Waiting}
 use Rattle.waiting.specs.Queues.{queue, first_of, rest_of, total, all_waiting, no_packets, put, of_session, first_answer, put_answer, after_put, after_take}
-use Rattle.waiting.proofs.Sums.{sum_below_none, sum-below-changed, term_within_sum}
+use Rattle.waiting.proofs.Sums.{sum_below_none, sum_below_changed, term_within_sum}
 use Rattle.waiting.proofs.Reading.{queue_past, used_is_all_waiting}
 
 -- ---- one queue of many
@@ -36,7 +36,7 @@ module _ (q : ℕ → List Packet) (s : ℕ) (ps : List Packet) where
   total_put low =
       omega (
         arith,
-        sum-below-changed 64 (λ n. length (q n)) (λ n. length (put q s ps n)) s low (λ n ne. ap length (put_other n ne)),
+        sum_below_changed 64 (λ n. length (q n)) (λ n. length (put q s ps n)) s low (λ n ne. ap length (put_other n ne)),
         ap length put_here,
       )
 
@@ -57,9 +57,9 @@ none_of_total q none s low = no_length (q s) (omega (arith, count_within_total q
 pub total_push : (q : ℕ → List Packet) (s : ℕ) (p : Packet) → s < 64 → total (put q s (q s ++ p ∷ [])) ≡ total q + 1
 total_push q s p low = omega (arith, total_put q s (q s ++ p ∷ []) low, length_push (q s) p)
 
-pub total-take :
+pub total_take :
     (q : ℕ → List Packet) (s : ℕ) (p : Packet) (ps : List Packet) → s < 64 → q s ≡ p ∷ ps → total (after_take q s) + 1 ≡ total q
-total-take q s p ps low is = omega (arith, total_put q s (rest_of (q s)) low, ap length is, ap (λ xs. length (rest_of xs)) is)
+total_take q s p ps low is = omega (arith, total_put q s (rest_of (q s)) low, ap length is, ap (λ xs. length (rest_of xs)) is)
 
 module _ (w : Waiting) where
   pub at_most_256_wait : all_waiting w ≤ 256
@@ -82,7 +82,7 @@ module _ (w v : Waiting) (s : ℕ) (p : Packet) (low : s < 64) where
   one_more_waits after = ap total after ∙ total_push (queue w) s p low
 
   pub one_less_waits : (ps : List Packet) → queue w s ≡ p ∷ ps → queue v ≡ after_take (queue w) s → all_waiting v + 1 ≡ all_waiting w
-  one_less_waits ps is after = omega (arith, ap total after, total-take (queue w) s p ps low is)
+  one_less_waits ps is after = omega (arith, ap total after, total_take (queue w) s p ps low is)
 
 -- ---- answers
 -- what passes a test that refuses
@@ -145,10 +145,10 @@ pub first_found :
 first_found q s p ps low is = of_session_low s (first_of (q s)) low ∙ ap (λ xs. Ok (first_of xs)) is
 
 -- put_last where it is known that there is room
-pub put-last-accepted :
+pub put_last_accepted :
     (q after : ℕ → List Packet) (s : ℕ) (p : Packet) (r : Result (Unit {0}) Refusal) → r ≡ put_answer q s → after ≡ after_put q s p r →
     s < 64 → total q < 256 → (r ≡ Ok tt) × (after ≡ put q s (q s ++ p ∷ []))
-put-last-accepted q after s p r answer queues low room =
+put_last_accepted q after s p r answer queues low room =
     let ok : r ≡ Ok tt = answer ∙ put_accepted q s low room in (ok, queues ∙ ap (after_put q s p) ok)
 
 -- where there is no packet, taking one leaves the queues

@@ -1,7 +1,7 @@
 use Rattle.std.proofs.Common.{arith, rules}
 use Rattle.listing.proofs.Rows.{lines_few}
 use Rattle.listing.proofs.Tellings.{listings_tell_histories}
-use Rattle.listing.proofs.Wholes.{refused_answer, refused_octets, listed_answer, listed-octets, short_trace}
+use Rattle.listing.proofs.Wholes.{refused_answer, refused_octets, listed_answer, listed_octets, short_trace}
 use Rattle.listing.proofs.whole.list.Goals as goal
 
 pub returns-in-err-check-sizes : goal.returns-in-err-check-sizes
@@ -23,7 +23,7 @@ returns c =
     let none = c.in-ok-check-sizes.ensures in
     record {
       answer = listed_answer trace out none c.list-all.new.out c.list-all.result c.list-all.ensures.wrote;
-      octets = listed-octets trace out none c.list-all.new.out c.list-all.result c.list-all.ensures.wrote;
+      octets = listed_octets trace out none c.list-all.new.out c.list-all.result c.list-all.ensures.wrote;
       few = omega (arith, c.list-all.ensures.short, lines_few trace, short_trace trace out none);
       tells = listings_tell_histories trace;
     }

@@ -5,10 +5,10 @@ use Rattle.ready.specs.Counts.{same_shuffled}
 use Rattle.ready.specs.Places.{ExceptAbove, above_more, above_done}
 use Rattle.ready.proofs.moves.move_up.Goals as goal
 
-pub returns-then-at-most : goal.returns-then-at-most
-returns-then-at-most c = record {
+pub returns-then-at_most : goal.returns-then-at_most
+returns-then-at_most c = record {
   same = c.loop-at.invariant.1;
-  ordered = above_done (entry_at c.loop-at.heap) (length c.loop-at.heap) c.loop-at.at (sym c.if-at-most.ensures) c.loop-at.invariant.2;
+  ordered = above_done (entry_at c.loop-at.heap) (length c.loop-at.heap) c.loop-at.at (sym c.if-at_most.ensures) c.loop-at.invariant.2;
 }
 
 pub loop-at-preserved : goal.loop-at-preserved
@@ -24,7 +24,7 @@ loop-at-preserved c =
       subst P (sym c.swap.ensures.len)
           (above_more (entry_at xs) (entry_at ys) (length xs) i j (omega arith, omega arith)
           (places.1 (0, 0), places.0 (0, 0), λ m a b. places.2 m (0, 0) b a)
-          (at_most_other (entry_at xs i) (entry_at xs j) (sym c.if-at-most.ensures))
+          (at_most_other (entry_at xs i) (entry_at xs j) (sym c.if-at_most.ensures))
           (omega arith)
           c.loop-at.invariant.2),
     )

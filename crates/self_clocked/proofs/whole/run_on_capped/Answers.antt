@@ -3,7 +3,7 @@ use Rattle.discipline.specs.declared.cap.Cap.{Cap}
 use Rattle.sharing.specs.Clocked.{New}
 use Rattle.self_clocked.specs.declared.line.SelfClocked.{SelfClocked}
 use Rattle.self_clocked.specs.States.{state}
-use Rattle.self_clocked.proofs.Wholes.{capped-run}
+use Rattle.self_clocked.proofs.Wholes.{capped_run}
 use Rattle.self_clocked.proofs.whole.run_on_capped.Goals as goal
 
 pub returns : goal.returns
@@ -13,7 +13,7 @@ returns g c =
       answer = c.run-new.ensures.answer;
       effect = c.run-new.ensures.effect;
       capped =
-          capped-run {R = g.row.R.Denot} g.R.ReadyLine.tags c.args.inner.number c.args.outer.number c.args.calls.now c.run-new.new.answers
+          capped_run {R = g.row.R.Denot} g.R.ReadyLine.tags c.args.inner.number c.args.outer.number c.args.calls.now c.run-new.new.answers
           c.over-line.result c.run-new.new.line c.run-new.result (ap (λ n. n.number) over.cap)
           (ap (λ (v : Cap (SelfClocked g.row.R.Denot)). v.cap.number) over.below ∙ ap (λ n. n.number) c.over.ensures.cap)
           (subst (λ (v : SelfClocked g.row.R.Denot). New (state v))

@@ -1,7 +1,7 @@
 use Rattle.std.proofs.Common.{[], sym, refl, arith}
 use Rattle.self_clocked.specs.States.{state}
 use Rattle.trace.specs.Streams.{lines_of, next_at}
-use Rattle.listing.proofs.Rows.{Listed, lines_more, lines_none, lines_one, listed_none, listed-room, listed_more, listed_all, called_all}
+use Rattle.listing.proofs.Rows.{Listed, lines_more, lines_none, lines_one, listed_none, listed_room, listed_more, listed_all, called_all}
 use Rattle.listing.proofs.lister.Lister.put_lines.Goals as goal
 
 pub loop-line-init : goal.loop-line-init
@@ -13,7 +13,7 @@ put-line-end-requires c =
     let left = c.in-Some.left.now in
     omega (
       arith,
-      listed-room (state c.args.self.now.line) c.args.trace.now c.args.out.now (state c.loop-line.self.line) c.loop-line.at
+      listed_room (state c.args.self.now.line) c.args.trace.now c.args.out.now (state c.loop-line.self.line) c.loop-line.at
           c.loop-line.rest.now c.loop-line.out c.loop-line.end c.loop-line.invariant line (lines_of left)
           (lines_more c.loop-line.rest.now line left c.in-Some.ensures.parts),
     )
@@ -45,7 +45,7 @@ put-line-requires c =
     let rest = c.loop-line.rest.now in
     omega (
       arith,
-      listed-room (state c.args.self.now.line) c.args.trace.now c.args.out.now (state c.loop-line.self.line) c.loop-line.at rest
+      listed_room (state c.args.self.now.line) c.args.trace.now c.args.out.now (state c.loop-line.self.line) c.loop-line.at rest
           c.loop-line.out c.loop-line.end c.loop-line.invariant rest [] (lines_one rest c.in-default.ensures.parts c.if-is-empty.ensures),
     )
 

@@ -1,28 +1,28 @@
 use Rattle.std.proofs.Common.{rules}
-use Rattle.ready.proofs.Steps.{some, taken-within, drop-ordered, drop-after}
+use Rattle.ready.proofs.Steps.{some, taken_within, drop_ordered, drop_after}
 use Rattle.ready.proofs.heap.HeapReadyLine.drop_least.Goals as goal
 
 pub bounds-self-session : goal.bounds-self-session
-bounds-self-session c = search (rules, taken-within)
+bounds-self-session c = search (rules, taken_within)
 
-pub drop-first-self-requires : goal.drop-first-self-requires
-drop-first-self-requires c = search (rules, some)
+pub drop_first-self-requires : goal.drop_first-self-requires
+drop_first-self-requires c = search (rules, some)
 
-pub move-down-requires : goal.move-down-requires
-move-down-requires c =
-    drop-ordered c.args.self.now c.in-ok-tag.tag c.in-ok-tag.session c.in-ok-tag.ensures
-    c.drop-first-self.result c.drop-first-self.new.table c.drop-first-self.ensures.count c.drop-first-self.ensures.after
+pub move_down-requires : goal.move_down-requires
+move_down-requires c =
+    drop_ordered c.args.self.now c.in_ok-tag.tag c.in_ok-tag.session c.in_ok-tag.ensures
+    c.drop_first-self.result c.drop_first-self.new.table c.drop_first-self.ensures.count c.drop_first-self.ensures.after
 
-pub invariant-of-self : goal.invariant-of-self
-invariant-of-self c =
-    (drop-after c.args.self.now c.in-ok-tag.tag c.in-ok-tag.session c.in-ok-tag.ensures
-    c.drop-first-self.result c.drop-first-self.new.table c.drop-first-self.ensures.count c.drop-first-self.ensures.after
-    c.move-down.new.heap c.move-down.auto.heap c.move-down.ensures.same c.move-down.ensures.ordered).1
+pub invariant_of-self : goal.invariant_of-self
+invariant_of-self c =
+    (drop_after c.args.self.now c.in_ok-tag.tag c.in_ok-tag.session c.in_ok-tag.ensures
+    c.drop_first-self.result c.drop_first-self.new.table c.drop_first-self.ensures.count c.drop_first-self.ensures.after
+    c.move_down.new.heap c.move_down.auto.heap c.move_down.ensures.same c.move_down.ensures.ordered).1
 
 pub returns : goal.returns
 returns c = record {
-  answer = c.in-ok-tag.ensures;
-  after = (drop-after c.args.self.now c.in-ok-tag.tag c.in-ok-tag.session c.in-ok-tag.ensures
-      c.drop-first-self.result c.drop-first-self.new.table c.drop-first-self.ensures.count c.drop-first-self.ensures.after
-      c.move-down.new.heap c.move-down.auto.heap c.move-down.ensures.same c.move-down.ensures.ordered).0;
+  answer = c.in_ok-tag.ensures;
+  after = (drop_after c.args.self.now c.in_ok-tag.tag c.in_ok-tag.session c.in_ok-tag.ensures
+      c.drop_first-self.result c.drop_first-self.new.table c.drop_first-self.ensures.count c.drop_first-self.ensures.after
+      c.move_down.new.heap c.move_down.auto.heap c.move_down.ensures.same c.move_down.ensures.ordered).0;
 }

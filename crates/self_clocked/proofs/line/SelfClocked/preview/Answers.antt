@@ -2,7 +2,7 @@ use Rattle.std.proofs.Common.{ap, arith}
 use Rattle.sessions.specs.Meanings.{meaning_of}
 use Rattle.sessions.proofs.Using.{at_most_256}
 use Rattle.self_clocked.specs.States.{state}
-use Rattle.self_clocked.proofs.Previewing.{long_tickets, previewed-count, previewed-tickets, previewed_scratch}
+use Rattle.self_clocked.proofs.Previewing.{long_tickets, previewed_count, previewed_tickets, previewed_scratch}
 use Rattle.self_clocked.proofs.line.SelfClocked.preview.Goals as goal
 
 pub write-starts-count-requires : goal.write-starts-count-requires
@@ -21,8 +21,8 @@ returns g c =
     let y = state c.copy-over-heap.result in
     let same = ap meaning_of c.copy-over-heap.ensures.sessions in
     record {
-      answer = previewed-count tickets scratch none x y same c.write-starts-count.result c.write-starts-count.ensures.count;
+      answer = previewed_count tickets scratch none x y same c.write-starts-count.result c.write-starts-count.ensures.count;
       few = omega (arith, c.write-starts-count.ensures.count, at_most_256 c.copy-over-heap.result.sessions);
-      tickets = previewed-tickets tickets scratch none x y same c.write-starts-count.new.tickets c.write-starts-count.ensures.tickets;
+      tickets = previewed_tickets tickets scratch none x y same c.write-starts-count.new.tickets c.write-starts-count.ensures.tickets;
       scratch = previewed_scratch tickets scratch none c.clear-scratch.new.scratch c.clear-scratch.ensures;
     }

@@ -1,6 +1,6 @@
 use Rattle.sessions.specs.Meanings.{meaning_of}
 use Rattle.self_clocked.specs.States.{last_in}
-use Rattle.self_clocked.proofs.Starts.{due_answer, started-state, started-ready}
+use Rattle.self_clocked.proofs.Starts.{due_answer, started_state, started_ready}
 use Rattle.self_clocked.proofs.line.SelfClocked.serve.Goals as goal
 
 pub returns : goal.returns
@@ -16,6 +16,6 @@ returns g c =
     let moved = c.in-ok-service.ensures.after in
     record {
       answer = λ due. due_answer tags m mark s due _ took;
-      after = λ due. started-state tags m mark s due service took y moved x.clock (last_in x.lasts);
-      ready = λ due. started-ready tags m mark s due service took y moved c.first.result (g.R.ReadyLine.tags c.renew.new.ready) c.first.ensures c.renew.ensures.after;
+      after = λ due. started_state tags m mark s due service took y moved x.clock (last_in x.lasts);
+      ready = λ due. started_ready tags m mark s due service took y moved c.first.result (g.R.ReadyLine.tags c.renew.new.ready) c.first.ensures c.renew.ensures.after;
     }

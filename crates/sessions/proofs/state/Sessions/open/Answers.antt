@@ -3,8 +3,8 @@ use Rattle.calls.specs.declared.call.Terms.{Terms}
 use Rattle.sharing.specs.Meanings.{after_open}
 use Rattle.sessions.specs.Meanings.{meaning_of}
 use Rattle.sessions.specs.Verdicts.{verdict, why_open}
-use Rattle.sessions.proofs.Keeping.{ghosts, open-keeps}
-use Rattle.sessions.proofs.Stepping.{open-verdict, opened, settles, stays}
+use Rattle.sessions.proofs.Keeping.{ghosts, open_keeps}
+use Rattle.sessions.proofs.Stepping.{open_verdict, opened, settles, stays}
 use Rattle.sessions.proofs.state.Sessions.open.Goals as goal
 
 pub returns-in-err-check-open : goal.returns-in-err-check-open
@@ -13,7 +13,7 @@ returns-in-err-check-open c =
     let terms : Terms = record { weight = c.args.weight; limit = c.args.limit } in
     let e = c.in-err-check-open.field-0.0 in
     let why = why_open (meaning_of x) c.args.session c.args.weight c.args.limit in
-    let refused : Err e ≡ verdict why (tt {0}) = c.in-err-check-open.ensures ∙ open-verdict x c.args.session terms in
+    let refused : Err e ≡ verdict why (tt {0}) = c.in-err-check-open.ensures ∙ open_verdict x c.args.session terms in
     record {
       answer = search (rules, refused);
       after = stays why (tt {0}) (meaning_of x) (after_open (meaning_of x) c.args.session c.args.weight c.args.limit) e refused;
@@ -22,7 +22,7 @@ returns-in-err-check-open c =
 
 pub invariant-of-self : goal.invariant-of-self
 invariant-of-self c =
-    open-keeps c.args.self.now.parts (ghosts c.args.self.now) c.args.session (record { weight = c.args.weight; limit = c.args.limit }) _
+    open_keeps c.args.self.now.parts (ghosts c.args.self.now) c.args.session (record { weight = c.args.weight; limit = c.args.limit }) _
     c.in-ok-check-open.ensures c.open.ensures
 
 pub returns : goal.returns
@@ -31,7 +31,7 @@ returns c =
     let s = c.args.session in
     let terms : Terms = record { weight = c.args.weight; limit = c.args.limit } in
     let why = why_open (meaning_of x) s c.args.weight c.args.limit in
-    let ok : Ok (tt {0}) ≡ verdict why (tt {0}) = c.in-ok-check-open.ensures ∙ open-verdict x s terms in
+    let ok : Ok (tt {0}) ≡ verdict why (tt {0}) = c.in-ok-check-open.ensures ∙ open_verdict x s terms in
     record {
       answer = ok;
       after =

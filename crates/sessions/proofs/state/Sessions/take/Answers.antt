@@ -1,6 +1,6 @@
 use Rattle.std.proofs.Common.{sym, refl, ap, ◌∙◌, rules}
 use Rattle.sessions.specs.Verdicts.{taken}
-use Rattle.sessions.proofs.Stepping.{take_busy, take_past, take-first, take-ok, take-keeps, took}
+use Rattle.sessions.proofs.Stepping.{take_busy, take_past, take_first, take_ok, take_keeps, took}
 use Rattle.sessions.proofs.state.Sessions.take.Goals as goal
 
 pub returns-in-err-check-free : goal.returns-in-err-check-free
@@ -31,21 +31,21 @@ returns-in-err-packet c =
 pub returns-in-default : goal.returns-in-default
 returns-in-default c =
     record {
-      answer = ap (taken c.args.session) (sym c.in-default.is) ∙ take-first c.args.self.now c.args.session c.in-ok-check-free.ensures _ c.in-ok-packet.ensures;
+      answer = ap (taken c.args.session) (sym c.in-default.is) ∙ take_first c.args.self.now c.args.session c.in-ok-check-free.ensures _ c.in-ok-packet.ensures;
       after = search rules;
       refused = search rules;
     }
 
 pub invariant-of-self : goal.invariant-of-self
 invariant-of-self c =
-    take-keeps c.args.self.now c.args.session c.in-ok-check-free.ensures _ c.in-Some.packet c.in-ok-packet.ensures
+    take_keeps c.args.self.now c.args.session c.in-ok-check-free.ensures _ c.in-Some.packet c.in-ok-packet.ensures
     c.in-Some.is _ c.start.ensures.seats c.start.ensures.queues c.start.ensures.condition
 
 pub returns : goal.returns
 returns c =
     record {
       answer =
-          take-ok c.args.self.now c.args.session c.in-ok-check-free.ensures _ c.in-Some.packet c.in-ok-packet.ensures
+          take_ok c.args.self.now c.args.session c.in-ok-check-free.ensures _ c.in-Some.packet c.in-ok-packet.ensures
           c.in-Some.is;
       after =
           took c.args.self.now c.args.session c.in-ok-check-free.ensures _ c.in-Some.packet c.in-ok-packet.ensures

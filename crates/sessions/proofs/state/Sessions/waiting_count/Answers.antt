@@ -1,5 +1,5 @@
 use Rattle.std.proofs.Common.{length, refl, rules}
-use Rattle.sessions.proofs.Reading.{asked_refused, asked-waiting}
+use Rattle.sessions.proofs.Reading.{asked_refused, asked_waiting}
 use Rattle.sessions.proofs.state.Sessions.waiting_count.Goals as goal
 
 pub returns-in-err-account : goal.returns-in-err-account
@@ -11,5 +11,5 @@ returns-in-err-account c =
 
 pub returns : goal.returns
 returns c =
-    asked-waiting c.args.self.now c.args.session _ c.in-ok-account.field-0 _ c.count.result c.in-ok-account.ensures
+    asked_waiting c.args.self.now c.args.session _ c.in-ok-account.field-0 _ c.count.result c.in-ok-account.ensures
     c.count.ensures refl

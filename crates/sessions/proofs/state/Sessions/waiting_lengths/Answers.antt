@@ -1,6 +1,6 @@
 use Rattle.std.proofs.Common.{sum_by, rules}
 use Rattle.waiting.specs.Queues.{queue}
-use Rattle.sessions.proofs.Reading.{asked_refused, asked-waiting, sum_of_lengths}
+use Rattle.sessions.proofs.Reading.{asked_refused, asked_waiting, sum_of_lengths}
 use Rattle.sessions.proofs.state.Sessions.waiting_lengths.Goals as goal
 
 pub returns-in-err-account : goal.returns-in-err-account
@@ -12,5 +12,5 @@ returns-in-err-account c =
 
 pub returns : goal.returns
 returns c =
-    asked-waiting c.args.self.now c.args.session _ c.in-ok-account.field-0 _ c.lengths.result c.in-ok-account.ensures
+    asked_waiting c.args.self.now c.args.session _ c.in-ok-account.field-0 _ c.lengths.result c.in-ok-account.ensures
     c.lengths.ensures (sum_of_lengths (queue c.args.self.now.parts.waiting c.args.session))

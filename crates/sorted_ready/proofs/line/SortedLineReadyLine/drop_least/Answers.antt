@@ -2,28 +2,28 @@ use Rattle.std.proofs.Common.{◌≤◌, length, None, ◌∙◌, arith, rules}
 use Rattle.std.proofs.lemmas.List.{length-set}
 use Rattle.ready.specs.Leasts.{tag_within}
 use Rattle.ready.specs.Counts.{count_dropped}
-use Rattle.sorted_ready.proofs.Falls.{last-answer, some, tag-of-last, shorter-once, shorter_falling}
+use Rattle.sorted_ready.proofs.Falls.{last_answer, some, tag_of_last, shorter_once, shorter_falling}
 use Rattle.sorted_ready.proofs.line.SortedLineReadyLine.drop_least.Goals as goal
 
 pub returns-in-err-tag : goal.returns-in-err-tag
 returns-in-err-tag c =
     let line = c.args.self.now in
     record {
-      answer = c.from-residual.ensures ∙ last-answer line.entries line.len (omega arith) line.tags line.once line.falling _ c.in-err-tag.ensures;
+      answer = c.from-residual.ensures ∙ last_answer line.entries line.len (omega arith) line.tags line.once line.falling _ c.in-err-tag.ensures;
       after = search rules;
     }
 
 pub bounds-self-session : goal.bounds-self-session
 bounds-self-session c =
     let line = c.args.self.now in
-    omega (arith, tag_within line.tags _ _ (tag-of-last line.entries line.len (omega arith) line.tags line.once _ c.in-ok-tag.ensures))
+    omega (arith, tag_within line.tags _ _ (tag_of_last line.entries line.len (omega arith) line.tags line.once _ c.in-ok-tag.ensures))
 
 pub invariant-of-self : goal.invariant-of-self
 invariant-of-self c =
     let line = c.args.self.now in
     let last = c.in-ok-tag.ensures in
     let within : line.len ≤ length line.entries = omega arith in
-    let tag = tag-of-last line.entries line.len within line.tags line.once _ last in (
+    let tag = tag_of_last line.entries line.len within line.tags line.once _ last in (
       length-set line.tags _ None ∙ line.sessions,
       (
         line.places,
@@ -32,7 +32,7 @@ invariant-of-self c =
           (
             omega (arith, count_dropped line.tags _ _ tag),
             (
-              shorter-once line.entries line.len within line.tags line.once _ last,
+              shorter_once line.entries line.len within line.tags line.once _ last,
               (shorter_falling line.entries line.len within line.falling, tt),
             ),
           ),
@@ -43,4 +43,4 @@ invariant-of-self c =
 pub returns : goal.returns
 returns c =
     let line = c.args.self.now in
-    record { answer = last-answer line.entries line.len (omega arith) line.tags line.once line.falling _ c.in-ok-tag.ensures; after = search rules }
+    record { answer = last_answer line.entries line.len (omega arith) line.tags line.once line.falling _ c.in-ok-tag.ensures; after = search rules }
