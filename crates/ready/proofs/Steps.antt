@@ -25,7 +25,13 @@ first_at (d ∷ es) e h = cc
 
 -- what the ghost fields say of the entries es of a heap, their number n and the table of the sessions that have one
 abbrev pub Kept : List Entry → ℕ → List Bool → Type 0
-Kept es n ps = (n ≤ 64) × (HeapOrdered 1 n es × (EachOnce es (tags_of es) × ((n ≡ entry_count (tags_of es)) × ((ps ≡ map is_some (tags_of es)) × Unit {0}))))
+Kept es n ps = record {
+  within : n ≤ 64;
+  ordered : HeapOrdered 1 n es;
+  once : EachOnce es (tags_of es);
+  counted : n ≡ entry_count (tags_of es);
+  marked : ps ≡ map is_some (tags_of es);
+}
 
 -- the table es after a move within its first n entries, which were ds and are ys then: the tags that they stand for, and what the
 -- ghost fields say. The checker writes `n - 0` for the length of the part from 0 to n
@@ -39,7 +45,13 @@ put_kept ys ds es n ps xs long room wide same ordered once counted marked =
     let all : EachOnce ys xs = once_same ds ys xs same once in
     let is = tags_from_once ys xs wide all in
     let here = sym (take_at ys (drop (n - 0) es) n long) in
-    let kept : Kept ys n ps = (few, (subst (λ (k : ℕ). HeapOrdered 1 k ys) long ordered, (subst (EachOnce ys) (sym is) all, (counted ∙ ap entry_count (sym is), (marked ∙ ap (map is_some) (sym is), tt))))) in (
+    let kept : Kept ys n ps = record {
+      within = few;
+      ordered = subst (λ (k : ℕ). HeapOrdered 1 k ys) long ordered;
+      once = subst (EachOnce ys) (sym is) all;
+      counted = counted ∙ ap entry_count (sym is);
+      marked = marked ∙ ap (map is_some) (sym is);
+    } in (
       ap tags_of (sym here) ∙ is,
       (omega (arith, length-append ys (drop (n - 0) es), length-drop (n - 0) es), subst (λ (zs : List Entry). Kept zs n ps) here kept),
     )

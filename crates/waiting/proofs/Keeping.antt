@@ -37,14 +37,20 @@ pub record Change (w : Waiting) (s : ℕ) (ps : List Place) (q : Queue) (free us
 -- the ghost fields of a table, one within the other
 abbrev pub Ghosts : Chains → Type 0
 Ghosts t =
-    (length t.places ≡ 256) ×
-    ((length t.queues ≡ 64) ×
-    (LinksWithin t ×
-    (HeadsWithin t ×
-    (TailsWithin t ×
-    ((t.free < 256) ×
-    ((t.used ≤ 256) ×
-    (LengthsWithin t × (TailsLast t × (LengthsSummed t × (CountsSummed t × (NoPlaceTwice t × Unit {0})))))))))))
+    record {
+      places : length t.places ≡ 256;
+      queues : length t.queues ≡ 64;
+      links : LinksWithin t;
+      heads : HeadsWithin t;
+      tails : TailsWithin t;
+      free : t.free < 256;
+      used : t.used ≤ 256;
+      sizes : LengthsWithin t;
+      lasts : TailsLast t;
+      lengths : LengthsSummed t;
+      counts : CountsSummed t;
+      once : NoPlaceTwice t;
+    }
 
 module _ {w : Waiting} {s : ℕ} {ps : List Place} {q : Queue} {free used : ℕ} (low : s < 64) (change : Change w s ps q free used) where
   abbrev qs : List Queue
@@ -90,19 +96,20 @@ module _ {w : Waiting} {s : ℕ} {ps : List Place} {q : Queue} {free used : ℕ}
       )
 
   pub change_keeps : Ghosts changed
-  change_keeps = (
-    change.all_places,
-    (
-      length-set qs s q ∙ w.queues,
-      (
-        change.links,
-        (
-          heads,
-          (tails, (change.first_free, (change.within, (change.sizes, (lasts, (lengths, (counts, (once, tt)))))))),
-        ),
-      ),
-    ),
-  )
+  change_keeps = record {
+    places = change.all_places;
+    queues = length-set qs s q ∙ w.queues;
+    links = change.links;
+    heads = heads;
+    tails = tails;
+    free = change.first_free;
+    used = change.within;
+    sizes = change.sizes;
+    lasts = lasts;
+    lengths = lengths;
+    counts = counts;
+    once = once;
+  }
 
   pub changed_queue : queue_in changed s ≡ packets ps (queue_chain ps q)
   changed_queue = ap (λ h. packets ps (queue_chain ps h)) (get_or-set_same qs s q empty_queue at)

@@ -86,40 +86,20 @@ module _ (ps : List Place) (linked : LinkedBelow 255 ps) where
       ap (λ (x : Place). x.next) (linked k) ∙ cond-true {A = ℕ} (ltb k 255) (k + 1) 0 (lt-ltb k 255 (omega arith))
 
   all_free_keeps : length ps ≡ 256 → Ghosts (all_free ps)
-  all_free_keeps all_places = (
-    all_places,
-    (
-      length-replicate 64 empty_queue,
-      (
-        next_within,
-        (
-          each_queue (λ q. q.head < 256) (omega arith),
-          (
-            each_queue (λ q. q.tail < 256) (omega arith),
-            (
-              omega arith,
-              (
-                omega arith,
-                (
-                  (λ i. subst (λ (x : Place). x.packet.length < 2 ^ 32) (sym (linked i)) (omega arith)),
-                  (
-                    each_queue (λ q. q.tail ≡ last_or q.tail (queue_chain ps q)) refl,
-                    (
-                      each_queue (λ q. q.lengths ≡ total_length (packets ps (queue_chain ps q))) refl,
-                      (
-                        sym (sum_repeated (λ (q : Queue). q.count) 64 empty_queue refl),
-                        (all_free_once ps 256 64 next_up, tt),
-                      ),
-                    ),
-                  ),
-                ),
-              ),
-            ),
-          ),
-        ),
-      ),
-    ),
-  )
+  all_free_keeps all_places = record {
+    places = all_places;
+    queues = length-replicate 64 empty_queue;
+    links = next_within;
+    heads = each_queue (λ q. q.head < 256) (omega arith);
+    tails = each_queue (λ q. q.tail < 256) (omega arith);
+    free = omega arith;
+    used = omega arith;
+    sizes = λ i. subst (λ (x : Place). x.packet.length < 2 ^ 32) (sym (linked i)) (omega arith);
+    lasts = each_queue (λ q. q.tail ≡ last_or q.tail (queue_chain ps q)) refl;
+    lengths = each_queue (λ q. q.lengths ≡ total_length (packets ps (queue_chain ps q))) refl;
+    counts = sym (sum_repeated (λ (q : Queue). q.count) 64 empty_queue refl);
+    once = all_free_once ps 256 64 next_up;
+  }
 
 module _ (t : Chains) (fresh : Fresh t) where
   pub fresh_keeps : Ghosts t

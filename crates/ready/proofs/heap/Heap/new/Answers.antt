@@ -3,7 +3,14 @@ use Rattle.ready.specs.Tables.{empty_tags, empty_once, empty_counted, empty_mark
 use Rattle.ready.proofs.heap.Heap.new.Goals as goal
 
 pub invariant_of-result : goal.invariant_of-result
-invariant_of-result c = (refl, (omega arith, ((λ k a b. absurd (omega arith)), (empty_once, (empty_counted, (empty_marked, tt))))))
+invariant_of-result c = record {
+  room = refl;
+  within = omega arith;
+  ordered = λ k a b. absurd (omega arith);
+  once = empty_once;
+  counted = empty_counted;
+  marked = empty_marked;
+}
 
 pub returns : goal.returns
 returns c = empty_tags

@@ -18,9 +18,17 @@ move_up-requires c =
 
 pub invariant_of-self : goal.invariant_of-self
 invariant_of-self c =
-    (add_after c.args.self.now c.args.tag c.args.session c.in_ok-place.place c.in_ok-place.ensures c.in_ok-check_free.ensures
+    let after = add_after c.args.self.now c.args.tag c.args.session c.in_ok-place.place c.in_ok-place.ensures c.in_ok-check_free.ensures
     c.push-self.result c.push-self.new.table c.push-self.ensures.count c.push-self.ensures.after
-    c.move_up.new.heap c.move_up.auto.heap c.move_up.ensures.same c.move_up.ensures.ordered).1
+    c.move_up.new.heap c.move_up.auto.heap c.move_up.ensures.same c.move_up.ensures.ordered in
+    record {
+      room = after.1.0;
+      within = after.1.1.within;
+      ordered = after.1.1.ordered;
+      once = after.1.1.once;
+      counted = after.1.1.counted;
+      marked = after.1.1.marked;
+    }
 
 pub returns : goal.returns
 returns c = record {

@@ -15,9 +15,17 @@ move_down-requires c =
 
 pub invariant_of-self : goal.invariant_of-self
 invariant_of-self c =
-    (drop_after c.args.self.now c.in_ok-tag.tag c.in_ok-tag.session c.in_ok-tag.ensures
+    let after = drop_after c.args.self.now c.in_ok-tag.tag c.in_ok-tag.session c.in_ok-tag.ensures
     c.drop_first-self.result c.drop_first-self.new.table c.drop_first-self.ensures.count c.drop_first-self.ensures.after
-    c.move_down.new.heap c.move_down.auto.heap c.move_down.ensures.same c.move_down.ensures.ordered).1
+    c.move_down.new.heap c.move_down.auto.heap c.move_down.ensures.same c.move_down.ensures.ordered in
+    record {
+      room = after.1.0;
+      within = after.1.1.within;
+      ordered = after.1.1.ordered;
+      once = after.1.1.once;
+      counted = after.1.1.counted;
+      marked = after.1.1.marked;
+    }
 
 pub returns : goal.returns
 returns c = record {
