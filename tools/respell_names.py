@@ -96,7 +96,7 @@ def plan():
     moves = {}
     goals = goal_names()
     for name, kinds in defined().items():
-        if name in goals:
+        if name in goals or (name[0].isupper() and "-" not in name and "_" not in name and "′" not in name):
             continue
         facts = kinds - {None}
         if len(facts) == 2:

@@ -11,7 +11,7 @@ use Rattle.sharing.specs.Rules.{enter_refusal}
 use Rattle.sharing.specs.Meanings.{Meaning, General, refuses, refusal}
 use Rattle.sharing.specs.Clocked as clocked
 use Rattle.sharing.specs.Clocked.{Clocked, ClockedStep}
-use Rattle.discipline.specs.caps.{places, room_under, cap_refusal, StepUnder}
+use Rattle.discipline.specs.Caps.{places, room_under, cap_refusal, StepUnder}
 
 -- a packet that is refused at the places that are left is refused so at the room too
 refused_at : (limit : Option ℕ) (left room reach s length : ℕ) (reason : Refusal) → enter_refusal limit left length s length ≡ Some reason →

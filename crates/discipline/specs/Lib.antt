@@ -1,4 +1,4 @@
 pub mod Answers
-pub mod caps
+pub mod Caps
 pub mod Continues
 pub mod CapsLemmas

@@ -2,7 +2,7 @@
 ghost use Rattle.std.specs.Prelude.{◌≡◌, ℕ, ◌-◌, ◌<◌, ◌≤◌, Ok, Err};
 ghost use Rattle.std.proofs.Common.{sym, subst, ap, arith, rules};
 ghost use Rattle.calls.specs.declared.call.Call.TheVariants.{Enter};
-ghost use Rattle.discipline.specs.caps.{cap_answer, places, room_under, cap_refusal, refused_by, StepUnder};
+ghost use Rattle.discipline.specs.Caps.{cap_answer, places, room_under, cap_refusal, refused_by, StepUnder};
 ghost use Rattle.discipline.specs.CapsLemmas.{step_cases, refused_under, passed_under, general_refused, clocked_refused};
 ghost use Rattle.sharing.specs.Meanings.{Meaning, General, waiting_in};
 ghost use Rattle.sharing.specs.Meanings;

@@ -11,7 +11,7 @@ use Rattle.sharing.proofs.Runs.{led_along}
 use Rattle.ready.specs.Tags.{Tags}
 use Rattle.sessions.specs.Meanings.{meaning_of}
 use Rattle.discipline.specs.Continues.{RunEffect}
-use Rattle.discipline.specs.caps.{cap_refusal, StepUnder}
+use Rattle.discipline.specs.Caps.{cap_refusal, StepUnder}
 use Rattle.discipline.specs.declared.cap.Cap.{Cap}
 use Rattle.self_clocked.specs.declared.line.SelfClocked.{SelfClocked}
 use Rattle.self_clocked.specs.Exact.{Exact, Sound}
@@ -70,11 +70,11 @@ module _ {R : Type 0} (tags : R → Tags) where
 
   module _ (inner outer : ℕ) where
     -- the two caps
-    caps : Cap (Cap (SelfClocked R)) → Type 0
-    caps x = (x.cap.number ≡ outer) × (x.below.cap.number ≡ inner)
+    Caps : Cap (Cap (SelfClocked R)) → Type 0
+    Caps x = (x.cap.number ≡ outer) × (x.below.cap.number ≡ inner)
 
-    caps_keep : (x y : Cap (Cap (SelfClocked R))) (c : Call) (a : Answer) → caps x → outer_steps x c a y → caps y
-    unfolding caps
+    caps_keep : (x y : Cap (Cap (SelfClocked R))) (c : Call) (a : Answer) → Caps x → outer_steps x c a y → Caps y
+    unfolding Caps
     caps_keep x y c a caps step = (
       ap (λ n. n.number) step.0 ∙ caps.0,
       under_same (λ z. z.cap.number) inner_steps (cap_refusal x.cap.number (meaning_of x.below.below.sessions) c) x.below y.below c a
@@ -82,9 +82,9 @@ module _ {R : Type 0} (tags : R → Tags) where
           caps.1,
     )
 
-    caps_move : (x y : Cap (Cap (SelfClocked R))) (c : Call) (a : Answer) → caps x → outer_steps x c a y →
+    caps_move : (x y : Cap (Cap (SelfClocked R))) (c : Call) (a : Answer) → Caps x → outer_steps x c a y →
         Capped outer (Capped inner Exact) (state x.below.below) c a (state y.below.below)
-    unfolding caps
+    unfolding Caps
     caps_move x y c a caps step =
         let m = meaning_of x.below.below.sessions in
         subst (λ (n : ℕ). StepUnder (cap_refusal n m c) (Capped inner Exact) (state x.below.below) c a (state y.below.below)) caps.0
@@ -96,10 +96,10 @@ module _ {R : Type 0} (tags : R → Tags) where
 
     pub capped_run : (calls : List Call) (after : List Answer) (x y : Cap (Cap (SelfClocked R))) (r : Result ℕ Refusal) → x.cap.number ≡ outer →
         x.below.cap.number ≡ inner → New (state x.below.below) → Made outer_steps calls after x y r → LedBy (Capped outer (Capped inner Exact)) calls after r
-    unfolding caps
+    unfolding Caps
     capped_run calls after x y (Ok count) is-outer is-inner new made = (
       state y.below.below,
-      led_along (λ z. z ≡ x) outer_steps New (Capped outer (Capped inner Exact)) (λ z. state z.below.below) caps
+      led_along (λ z. z ≡ x) outer_steps New (Capped outer (Capped inner Exact)) (λ z. state z.below.below) Caps
           (λ z same. (ap (λ v. v.cap.number) same ∙ is-outer, ap (λ v. v.below.cap.number) same ∙ is-inner)) caps_keep
           (λ z same. subst (λ (v : Cap (Cap (SelfClocked R))). New (state v.below.below)) (sym same) new) caps_move (extended [] calls after) y made,
     )

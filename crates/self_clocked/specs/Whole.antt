@@ -3,7 +3,7 @@ use Rattle.std.specs.Prelude.{◌≡◌, ℕ, List, [], ◌++◌, length, drop, 
 use Rattle.calls.specs.declared.call.Call.{Call}
 use Rattle.calls.specs.declared.call.Answer.{Answer}
 use Rattle.calls.specs.declared.refusal.Refusal.{Refusal}
-use Rattle.discipline.specs.caps.{cap_refusal, StepUnder}
+use Rattle.discipline.specs.Caps.{cap_refusal, StepUnder}
 use Rattle.sharing.specs.Histories.{History}
 use Rattle.sharing.specs.Runs.{Led, extended}
 use Rattle.sharing.specs.Statements.{Fair}

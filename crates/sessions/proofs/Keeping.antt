@@ -26,7 +26,13 @@ use Rattle.sessions.specs.Verdicts.{verdict, served}
 
 -- the ghost fields, one within the other
 abbrev pub Ghosts : Parts → Type 0
-Ghosts p = (length p.seats ≡ 64) × (TermsWithin p × (ClosedEmpty p × (ConditionFits p × (ServesOpen p × Unit {0}))))
+Ghosts p = record {
+  seats : length p.seats ≡ 64;
+  terms : TermsWithin p;
+  closed : ClosedEmpty p;
+  fits : ConditionFits p;
+  served : ServesOpen p;
+}
 
 -- ---- reasons
 
@@ -155,35 +161,29 @@ carrying (Carrying other) service is = cc
 pub fresh_keeps : (p : Parts) → Fresh p → Ghosts p
 fresh_keeps p new =
     let closed : (s : ℕ) → seat_at p.seats s ≡ Closed = λ s. ap (λ seats. seat_at seats s) new.seats ∙ repeated 64 s in
-    let none : all_waiting p.waiting ≡ 0 = ap total new.queues ∙ total_no_packets in (
-      ap length new.seats,
-      (
-        λ s. ap terms_within (closed s),
-        (
-          λ s. ap (λ seat. waiting_while_closed seat (queue p.waiting s)) (closed s) ∙ ap (λ q. length (q s)) new.queues,
-          (
-            ap (λ c. fits c (all_waiting p.waiting)) new.condition ∙ eq-eqb (all_waiting p.waiting) 0 none,
-            (ap (λ c. serves_open c p.seats) new.condition, tt),
-          ),
-        ),
-      ),
-    )
+    let none : all_waiting p.waiting ≡ 0 = ap total new.queues ∙ total_no_packets in
+    record {
+      seats = ap length new.seats;
+      terms = λ s. ap terms_within (closed s);
+      closed = λ s. ap (λ seat. waiting_while_closed seat (queue p.waiting s)) (closed s) ∙ ap (λ q. length (q s)) new.queues;
+      fits = ap (λ c. fits c (all_waiting p.waiting)) new.condition ∙ eq-eqb (all_waiting p.waiting) 0 none;
+      served = ap (λ c. serves_open c p.seats) new.condition;
+    }
 
 module _ (p : Parts) (g : Ghosts p) where
   -- an open seat in the place of another
   seat_keeps : (s : ℕ) (seat : Seat) → s < 64 → is_open seat ≡ true → terms_within seat ≡ true → Ghosts (with_seat p s seat)
   seat_keeps s seat low opened within =
-      let there : s < length p.seats = omega (arith, g.0) in (
-        length-set p.seats s seat ∙ g.0,
-        (
-          seat_set (λ k t. terms_within t ≡ true) p.seats s seat there within (λ k ne. g.1.0 k),
-          (
+      let there : s < length p.seats = omega (arith, g.seats) in
+      record {
+        seats = length-set p.seats s seat ∙ g.seats;
+        terms = seat_set (λ k t. terms_within t ≡ true) p.seats s seat there within (λ k ne. g.terms k);
+        closed =
             seat_set (λ k t. waiting_while_closed t (queue p.waiting k) ≡ 0) p.seats s seat there (open_empty seat _ opened)
-                (λ k ne. g.1.1.0 k),
-            (g.1.1.1.0, (serves_set p.condition p.seats s seat there opened g.1.1.1.1.0, tt)),
-          ),
-        ),
-      )
+                (λ k ne. g.closed k);
+        fits = g.fits;
+        served = serves_set p.condition p.seats s seat there opened g.served;
+      }
 
   pub open_keeps :
       (s : ℕ) (terms : Terms) (after : Parts) → Ok (tt {0}) ≡ verdict (open_refusal (is_open (seat_at p.seats s)) s terms.weight terms.limit) (tt {0}) →
@@ -197,16 +197,13 @@ module _ (p : Parts) (g : Ghosts p) where
       (after : Parts) → after.seats ≡ p.seats →
       ((k : ℕ) → waiting_while_closed (seat_at p.seats k) (queue after.waiting k) ≡ 0) → ConditionFits after →
       serves_open after.condition p.seats ≡ true → Ghosts after
-  queues_keep after seats closed fit serves = (
-    ap length seats ∙ g.0,
-    (
-      λ k. ap (λ l. terms_within (seat_at l k)) seats ∙ g.1.0 k,
-      (
-        λ k. ap (λ l. waiting_while_closed (seat_at l k) (queue after.waiting k)) seats ∙ closed k,
-        (fit, (ap (serves_open after.condition) seats ∙ serves, tt)),
-      ),
-    ),
-  )
+  queues_keep after seats closed fit serves = record {
+    seats = ap length seats ∙ g.seats;
+    terms = λ k. ap (λ l. terms_within (seat_at l k)) seats ∙ g.terms k;
+    closed = λ k. ap (λ l. waiting_while_closed (seat_at l k) (queue after.waiting k)) seats ∙ closed k;
+    fits = fit;
+    served = ap (serves_open after.condition) seats ∙ serves;
+  }
 
   pub enter_keeps :
       (s : ℕ) (packet : Packet) (after : Parts) → s < 64 → is_open (seat_at p.seats s) ≡ true → after.seats ≡ p.seats →
@@ -220,15 +217,15 @@ module _ (p : Parts) (g : Ghosts p) where
       (λ k. ap (λ f. waiting_while_closed (seat_at p.seats k) (f k)) queues ∙
       ⊎_elim
       (λ (e : k ≡ s). open_empty (seat_at p.seats k) _ (ap (λ i. is_open (seat_at p.seats i)) e ∙ opened))
-      (λ (ne : k ≡ s → ⊥). ap (waiting_while_closed (seat_at p.seats k)) (put_other q s (q s ++ packet ∷ []) k ne) ∙ g.1.1.0 k)
+      (λ (ne : k ≡ s → ⊥). ap (waiting_while_closed (seat_at p.seats k)) (put_other q s (q s ++ packet ∷ []) k ne) ∙ g.closed k)
       (cases_eq k s))
       (ap (λ c. fits c n) condition ∙ fits_entered p.condition n some)
-      (ap (λ c. serves_open c p.seats) condition ∙ serves_entered p.condition p.seats n g.1.1.1.1.0)
+      (ap (λ c. serves_open c p.seats) condition ∙ serves_entered p.condition p.seats n g.served)
 
   -- the session has a first packet, and none is in service
   pub must_pause : (s : ℕ) → s < 64 → 0 < length (queue p.waiting s) → Ok (tt {0}) ≡ free_from p.condition → p.condition ≡ Pausing
   must_pause s low some free =
-      pausing p.condition (all_waiting p.waiting) g.1.1.1.0 (omega (arith, count_within_total (queue p.waiting) s low)) free
+      pausing p.condition (all_waiting p.waiting) g.fits (omega (arith, count_within_total (queue p.waiting) s low)) free
 
   pub start_keeps :
       (service : Service) (after : Parts) → service.session < 64 → 0 < length (queue p.waiting service.session) →
@@ -245,14 +242,14 @@ module _ (p : Parts) (g : Ghosts p) where
       ⊎_elim
       (λ (e : k ≡ s).
       subst (λ i. waiting_while_closed (seat_at p.seats i) (put q s (rest_of (q s)) i) ≡ 0) (sym e)
-      (ap (waiting_while_closed (seat_at p.seats s)) (put_here q s (rest_of (q s))) ∙ rest_empty (seat_at p.seats s) (q s) (g.1.1.0 s)))
-      (λ (ne : k ≡ s → ⊥). ap (waiting_while_closed (seat_at p.seats k)) (put_other q s (rest_of (q s)) k ne) ∙ g.1.1.0 k)
+      (ap (waiting_while_closed (seat_at p.seats s)) (put_here q s (rest_of (q s))) ∙ rest_empty (seat_at p.seats s) (q s) (g.closed s)))
+      (λ (ne : k ≡ s → ⊥). ap (waiting_while_closed (seat_at p.seats k)) (put_other q s (rest_of (q s)) k ne) ∙ g.closed k)
       (cases_eq k s))
       (ap (λ c. fits c n) now)
-      (ap (λ c. serves_open c p.seats) now ∙ open_if_waiting (seat_at p.seats s) (q s) (g.1.1.0 s) some)
+      (ap (λ c. serves_open c p.seats) now ∙ open_if_waiting (seat_at p.seats s) (q s) (g.closed s) some)
 
   pub serves : (service : Service) → p.condition ≡ Carrying service → is_open (seat_at p.seats service.session) ≡ true
-  serves service is = sym (ap (λ c. serves_open c p.seats) is) ∙ g.1.1.1.1.0
+  serves service is = sym (ap (λ c. serves_open c p.seats) is) ∙ g.served
 
   pub serves_below : (service : Service) → p.condition ≡ Carrying service → service.session < length p.seats
   serves_below service is = open_below p.seats service.session (serves service is)
@@ -265,20 +262,19 @@ module _ (p : Parts) (g : Ghosts p) where
       let s = service.session in
       let n = all_waiting p.waiting in
       let seat = seat_at p.seats s in
-      let h = seat_keeps s (with_octets amount seat) (omega (arith, serves_below service carried, g.0)) (credited_open amount seat (serves service carried))
-      (credited_within amount seat (g.1.0 s)) in
+      let h = seat_keeps s (with_octets amount seat) (omega (arith, serves_below service carried, g.seats)) (credited_open amount seat (serves service carried))
+      (credited_within amount seat (g.terms s)) in
       let rests : moved p.condition Finished n ≡ resting n = ap (λ c. moved c Finished n) carried in
       let seats = set p.seats s (with_octets amount seat) in
       subst Ghosts (sym is) (
-        h.0,
-        (
-          h.1.0,
-          (
-            h.1.1.0,
-            (ap (λ c. fits c n) rests ∙ fits_resting n, (ap (λ c. serves_open c seats) rests ∙ serves_either (eqb n 0) seats, tt)),
-          ),
-        ),
+        record {
+          seats = h.seats;
+          terms = h.terms;
+          closed = h.closed;
+          fits = ap (λ c. fits c n) rests ∙ fits_resting n;
+          served = ap (λ c. serves_open c seats) rests ∙ serves_either (eqb n 0) seats;
+        }
       )
 
 pub ghosts : (x : Sessions) → Ghosts x.parts
-ghosts x = (x.seats, (x.terms, (x.closed, (x.fits, (x.served, tt)))))
+ghosts x = record { seats = x.seats; terms = x.terms; closed = x.closed; fits = x.fits; served = x.served }

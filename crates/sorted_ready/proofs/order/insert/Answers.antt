@@ -8,11 +8,11 @@ use Rattle.sorted_ready.proofs.order.insert.Goals as goal
 pub returns : goal.returns
 returns c =
     let es = take c.args.len c.args.entries.now in
-    let place = c.place-among-place.result in
+    let place = c.place_among-place.result in
     let new = c.args.new in
-    let at = rw sub-zero at c.place-among-place.ensures in
+    let at = rw sub-zero at c.place_among-place.ensures in
     record {
-      long = c.insert-at.array_long;
-      same = subst (SameEntries (es ++ new ∷ [])) (sym c.insert-at.ensures) (inserted_same es place new);
-      falling = λ falling. subst Falling (sym c.insert-at.ensures) (inserted_falling es place new at.within at.before at.after falling);
+      long = c.insert_at.array_long;
+      same = subst (SameEntries (es ++ new ∷ [])) (sym c.insert_at.ensures) (inserted_same es place new);
+      falling = λ falling. subst Falling (sym c.insert_at.ensures) (inserted_falling es place new at.within at.before at.after falling);
     }

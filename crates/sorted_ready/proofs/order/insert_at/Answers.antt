@@ -4,4 +4,4 @@ use Rattle.sorted_ready.proofs.order.insert_at.Goals as goal
 
 pub returns : goal.returns
 returns c =
-    put_in c.args.entries.now c.args.len c.args.place c.args.new c.requires.0 (omega arith) _ _ refl c.rotate-right.ensures.after
+    put_in c.args.entries.now c.args.len c.args.place c.args.new c.requires.0 (omega arith) _ _ refl c.rotate_right.ensures.after

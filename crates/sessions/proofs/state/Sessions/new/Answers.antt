@@ -3,8 +3,8 @@ use Rattle.sessions.proofs.Keeping.{fresh_keeps}
 use Rattle.sessions.proofs.Changing.{fresh_meaning}
 use Rattle.sessions.proofs.state.Sessions.new.Goals as goal
 
-pub invariant-of-result : goal.invariant-of-result
-invariant-of-result c = fresh_keeps c.new.result c.new.ensures
+pub invariant_of-result : goal.invariant_of-result
+invariant_of-result c = fresh_keeps c.new.result c.new.ensures
 
 pub returns : goal.returns
 unfolding meaning_of

@@ -8,13 +8,13 @@ use Rattle.sessions.proofs.state.Sessions.put.Goals as goal
 pub enter-requires : goal.enter-requires
 enter-requires c =
     record {
-      number = put_below c.args.self.now c.args.session c.in-ok-check-put.ensures;
-      room = put_room c.args.self.now c.args.session c.in-ok-check-put.ensures;
+      number = put_below c.args.self.now c.args.session c.in_ok-check_put.ensures;
+      room = put_room c.args.self.now c.args.session c.in_ok-check_put.ensures;
     }
 
-pub invariant-of-self : goal.invariant-of-self
-invariant-of-self c =
-    put_keeps c.args.self.now c.args.session c.in-ok-check-put.ensures c.args.packet _ c.enter.ensures.seats
+pub invariant_of-self : goal.invariant_of-self
+invariant_of-self c =
+    put_keeps c.args.self.now c.args.session c.in_ok-check_put.ensures c.args.packet _ c.enter.ensures.seats
     c.enter.ensures.queues c.enter.ensures.condition
 
 pub returns : goal.returns
@@ -22,10 +22,10 @@ returns c =
     let x = c.args.self.now in
     let s = c.args.session in
     record {
-      answer = c.in-ok-check-put.ensures;
+      answer = c.in_ok-check_put.ensures;
       after =
           settles (why_put (meaning_of x) s) (tt {0}) (tt {0}) (meaning_of x) (after_enter (meaning_of x) s c.args.packet) _
-          c.in-ok-check-put.ensures
+          c.in_ok-check_put.ensures
           (entered x _ s c.args.packet c.enter.ensures.seats c.enter.ensures.queues c.enter.ensures.condition);
       refused = search rules;
     }

@@ -3,5 +3,5 @@ use Rattle.ready.specs.Entries.{EachOnce}
 use Rattle.ready.specs.Tables.{empty_tags, empty_once}
 use Rattle.sorted_ready.proofs.line.SortedLine.new.Goals as goal
 
-pub invariant-of-result : goal.invariant-of-result
-invariant-of-result c = (refl, (refl, (lit≤ tt, (refl, (subst (EachOnce []) empty_tags empty_once, (λ k l. refl, tt))))))
+pub invariant_of-result : goal.invariant_of-result
+invariant_of-result c = (refl, (refl, (lit≤ tt, (refl, (subst (EachOnce []) empty_tags empty_once, (λ k l. refl, tt))))))

@@ -9,18 +9,18 @@ use Rattle.sorted_ready.proofs.line.SortedLineReadyLine.add.Goals as goal
 pub insert-requires : goal.insert-requires
 insert-requires c =
     let line = c.args.self.now in
-    let place = c.in-ok-place.place in
-    let at = place_is c.args.session place c.in-ok-place.ensures in
-    let free = is_free (tag_of line.tags place) c.is-some.result c.is-some.ensures c.in-ok-check-free.ensures in
+    let place = c.in_ok-place.place in
+    let at = place_is c.args.session place c.in_ok-place.ensures in
+    let free = is_free (tag_of line.tags place) c.is_some.result c.is_some.ensures c.in_ok-check_free.ensures in
     omega (arith, count_free line.tags place (omega arith) free)
 
-pub invariant-of-self : goal.invariant-of-self
-invariant-of-self c =
+pub invariant_of-self : goal.invariant_of-self
+invariant_of-self c =
     let line = c.args.self.now in
     let tag = c.args.tag in
-    let place = c.in-ok-place.place in
-    let at = place_is c.args.session place c.in-ok-place.ensures in
-    let free = is_free (tag_of line.tags place) c.is-some.result c.is-some.ensures c.in-ok-check-free.ensures in
+    let place = c.in_ok-place.place in
+    let at = place_is c.args.session place c.in_ok-place.ensures in
+    let free = is_free (tag_of line.tags place) c.is_some.result c.is_some.ensures c.in_ok-check_free.ensures in
     let within : place < length line.tags = omega arith in
     let es = take line.len line.entries in
     let one_more = once_added es line.tags tag place within free line.once in (

@@ -5,23 +5,23 @@ use Rattle.ready.specs.Counts.{count_dropped}
 use Rattle.sorted_ready.proofs.Falls.{last_answer, some, tag_of_last, shorter_once, shorter_falling}
 use Rattle.sorted_ready.proofs.line.SortedLineReadyLine.drop_least.Goals as goal
 
-pub returns-in-err-tag : goal.returns-in-err-tag
-returns-in-err-tag c =
+pub returns-in_err-tag : goal.returns-in_err-tag
+returns-in_err-tag c =
     let line = c.args.self.now in
     record {
-      answer = c.from-residual.ensures ∙ last_answer line.entries line.len (omega arith) line.tags line.once line.falling _ c.in-err-tag.ensures;
+      answer = c.from_residual.ensures ∙ last_answer line.entries line.len (omega arith) line.tags line.once line.falling _ c.in_err-tag.ensures;
       after = search rules;
     }
 
 pub bounds-self-session : goal.bounds-self-session
 bounds-self-session c =
     let line = c.args.self.now in
-    omega (arith, tag_within line.tags _ _ (tag_of_last line.entries line.len (omega arith) line.tags line.once _ c.in-ok-tag.ensures))
+    omega (arith, tag_within line.tags _ _ (tag_of_last line.entries line.len (omega arith) line.tags line.once _ c.in_ok-tag.ensures))
 
-pub invariant-of-self : goal.invariant-of-self
-invariant-of-self c =
+pub invariant_of-self : goal.invariant_of-self
+invariant_of-self c =
     let line = c.args.self.now in
-    let last = c.in-ok-tag.ensures in
+    let last = c.in_ok-tag.ensures in
     let within : line.len ≤ length line.entries = omega arith in
     let tag = tag_of_last line.entries line.len within line.tags line.once _ last in (
       length-set line.tags _ None ∙ line.sessions,
@@ -43,4 +43,4 @@ invariant-of-self c =
 pub returns : goal.returns
 returns c =
     let line = c.args.self.now in
-    record { answer = last_answer line.entries line.len (omega arith) line.tags line.once line.falling _ c.in-ok-tag.ensures; after = search rules }
+    record { answer = last_answer line.entries line.len (omega arith) line.tags line.once line.falling _ c.in_ok-tag.ensures; after = search rules }

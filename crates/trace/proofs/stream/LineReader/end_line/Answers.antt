@@ -12,5 +12,5 @@ returns-then-self-eq0 c =
           ap (λ r. record { at = x.at; line = r })
           (c.read_line.ensures ∙ sym (kept_reads c.args.part.now)
           ∙ ap (λ k. read_line (kept (take k x.held ++ c.args.part.now))) (sym c.if-self-eq0.true));
-      after = λ i. record { at = c.next-at-self.ensures i; held = take (c.if-self-eq0.true i) x.held };
+      after = λ i. record { at = c.next_at-self.ensures i; held = take (c.if-self-eq0.true i) x.held };
     }

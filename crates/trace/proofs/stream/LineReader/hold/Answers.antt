@@ -3,11 +3,11 @@ use borrow.Rule.Slice.PartMut.{put_mid, same_len_mid}
 use Rattle.trace.proofs.Streaming.{hold_is}
 use Rattle.trace.proofs.stream.LineReader.hold.Goals as goal
 
-pub invariant-of-self : goal.invariant-of-self
-invariant-of-self c =
+pub invariant_of-self : goal.invariant_of-self
+invariant_of-self c =
     let x = c.args.self.now in
     let n = c.min-n.result in (
-      same_len_mid x.len (x.len + n - x.len) x.held c.copy-from-slice.new.self c.copy-from-slice.ensures.len ∙ x.wide,
+      same_len_mid x.len (x.len + n - x.len) x.held c.copy_from_slice.new.self c.copy_from_slice.ensures.len ∙ x.wide,
       (omega (arith, x.few), tt),
     )
 
@@ -17,5 +17,5 @@ returns c =
     let part = c.args.part.now in
     let n = c.min-n.result in
     ap (λ held. record { at = x.at; held = held })
-    (ap (λ piece. take (x.len + n) (put_mid x.len (x.len + n - x.len) x.held piece)) c.copy-from-slice.ensures.after ∙
+    (ap (λ piece. take (x.len + n) (put_mid x.len (x.len + n - x.len) x.held piece)) c.copy_from_slice.ensures.after ∙
     hold_is x.held part x.len n (omega (arith, x.wide, x.few)) x.few c.min-n.ensures)
