@@ -8,14 +8,14 @@ returns g c =
     let met = g.met.D.Discipline in
     let clocked-met = g.met.D.SelfClockedDiscipline in
     record {
-      answer = c.run-self-clocked.ensures.answer;
+      answer = c.run_self_clocked.ensures.answer;
       effect =
           whole_run d.fresh d.sound d.steps d.meaning g.D.SelfClockedDiscipline.clocked ClockedStep met.begins met.keeps
           clocked-met.clocked_meaning clocked-met.clocked_new clocked-met.clocked_steps c.args.calls.now c.args.answers.now
-          c.run-self-clocked.new.answers c.args.line.now c.run-self-clocked.new.line c.run-self-clocked.result c.requires
-          c.run-self-clocked.ensures.effect;
+          c.run_self_clocked.new.answers c.args.line.now c.run_self_clocked.new.line c.run_self_clocked.result c.requires
+          c.run_self_clocked.ensures.effect;
       made =
-          run_made d.fresh d.sound d.steps d.meaning c.args.calls.now c.args.answers.now c.run-self-clocked.new.answers
-          c.args.line.now c.run-self-clocked.new.line c.run-self-clocked.result (met.begins c.args.line.now c.requires)
-          c.run-self-clocked.ensures.effect;
+          run_made d.fresh d.sound d.steps d.meaning c.args.calls.now c.args.answers.now c.run_self_clocked.new.answers
+          c.args.line.now c.run_self_clocked.new.line c.run_self_clocked.result (met.begins c.args.line.now c.requires)
+          c.run_self_clocked.ensures.effect;
     }

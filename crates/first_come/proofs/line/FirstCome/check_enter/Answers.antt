@@ -5,5 +5,5 @@ use Rattle.first_come.proofs.line.FirstCome.check_enter.Goals as goal
 
 pub returns : goal.returns
 returns c =
-    sym (ap (λ w. verdict w (tt {0})) (enter_passes c.args.self.now c.args.session c.args.length c.in-ok-check-length.field-0
-    c.in-ok-check-length.ensures (omega (arith, c.total.ensures.all))))
+    sym (ap (λ w. verdict w (tt {0})) (enter_passes c.args.self.now c.args.session c.args.length c.in_ok-check_length.field-0
+    c.in_ok-check_length.ensures (omega (arith, c.total.ensures.all))))

@@ -9,5 +9,5 @@ returns g c =
     let x = c.args.self.now in
     let s = c.args.session in
     c.mark.ensures ∙
-    admit_is (state x) s (open_in_order x.sessions s) c.args.length c.in-ok-terms.terms c.in-ok-terms.ensures
-    c.in-ok-check-room.ensures
+    admit_is (state x) s (open_in_order x.sessions s) c.args.length c.in_ok-terms.terms c.in_ok-terms.ensures
+    c.in_ok-check_room.ensures

@@ -11,9 +11,9 @@ returns g c =
     let tags = g.R.ReadyLine.tags x.ready in
     let mark = c.args.mark in
     let s = c.args.session in
-    let service = c.in-ok-service.service in
-    let took = c.in-ok-service.ensures.answer in
-    let moved = c.in-ok-service.ensures.after in
+    let service = c.in_ok-service.service in
+    let took = c.in_ok-service.ensures.answer in
+    let moved = c.in_ok-service.ensures.after in
     record {
       answer = λ due. due_answer tags m mark s due _ took;
       after = λ due. started_state tags m mark s due service took y moved x.clock (last_in x.lasts);

@@ -4,4 +4,11 @@ use Rattle.ready.specs.Tables.{empty_tags, empty_once}
 use Rattle.sorted_ready.proofs.line.SortedLine.new.Goals as goal
 
 pub invariant_of-result : goal.invariant_of-result
-invariant_of-result c = (refl, (refl, (lit≤ tt, (refl, (subst (EachOnce []) empty_tags empty_once, (λ k l. refl, tt))))))
+invariant_of-result c = record {
+  sessions = refl;
+  places = refl;
+  fits = lit≤ tt;
+  counted = refl;
+  once = subst (EachOnce []) empty_tags empty_once;
+  falling = λ k l. refl;
+}

@@ -23,20 +23,14 @@ invariant_of-self c =
     let free = is_free (tag_of line.tags place) c.is_some.result c.is_some.ensures c.in_ok-check_free.ensures in
     let within : place < length line.tags = omega arith in
     let es = take line.len line.entries in
-    let one_more = once_added es line.tags tag place within free line.once in (
-      length-set line.tags place (Some tag) ∙ line.sessions,
-      (
-        c.insert.ensures.long,
-        (
-          omega (arith, count_free line.tags place within free),
-          (
-            omega (arith, count_added line.tags tag place within free),
-            (
-              once_same (es ++ (tag, c.args.session) ∷ []) (take (line.len + 1) c.insert.new.entries) (set line.tags place (Some tag)) c.insert.ensures.same
-                  (subst (λ (s : ℕ). EachOnce (es ++ (tag, s) ∷ []) (set line.tags place (Some tag))) at.0 one_more),
-              (c.insert.ensures.falling line.falling, tt),
-            ),
-          ),
-        ),
-      ),
-    )
+    let one_more = once_added es line.tags tag place within free line.once in
+    record {
+      sessions = length-set line.tags place (Some tag) ∙ line.sessions;
+      places = c.insert.ensures.long;
+      fits = omega (arith, count_free line.tags place within free);
+      counted = omega (arith, count_added line.tags tag place within free);
+      once =
+          once_same (es ++ (tag, c.args.session) ∷ []) (take (line.len + 1) c.insert.new.entries) (set line.tags place (Some tag)) c.insert.ensures.same
+                  (subst (λ (s : ℕ). EachOnce (es ++ (tag, s) ∷ []) (set line.tags place (Some tag))) at.0 one_more);
+      falling = c.insert.ensures.falling line.falling;
+    }

@@ -23,22 +23,15 @@ invariant_of-self c =
     let line = c.args.self.now in
     let last = c.in_ok-tag.ensures in
     let within : line.len ≤ length line.entries = omega arith in
-    let tag = tag_of_last line.entries line.len within line.tags line.once _ last in (
-      length-set line.tags _ None ∙ line.sessions,
-      (
-        line.places,
-        (
-          omega arith,
-          (
-            omega (arith, count_dropped line.tags _ _ tag),
-            (
-              shorter_once line.entries line.len within line.tags line.once _ last,
-              (shorter_falling line.entries line.len within line.falling, tt),
-            ),
-          ),
-        ),
-      ),
-    )
+    let tag = tag_of_last line.entries line.len within line.tags line.once _ last in
+    record {
+      sessions = length-set line.tags _ None ∙ line.sessions;
+      places = line.places;
+      fits = omega arith;
+      counted = omega (arith, count_dropped line.tags _ _ tag);
+      once = shorter_once line.entries line.len within line.tags line.once _ last;
+      falling = shorter_falling line.entries line.len within line.falling;
+    }
 
 pub returns : goal.returns
 returns c =

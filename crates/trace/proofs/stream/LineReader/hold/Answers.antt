@@ -6,10 +6,11 @@ use Rattle.trace.proofs.stream.LineReader.hold.Goals as goal
 pub invariant_of-self : goal.invariant_of-self
 invariant_of-self c =
     let x = c.args.self.now in
-    let n = c.min-n.result in (
-      same_len_mid x.len (x.len + n - x.len) x.held c.copy_from_slice.new.self c.copy_from_slice.ensures.len ∙ x.wide,
-      (omega (arith, x.few), tt),
-    )
+    let n = c.min-n.result in
+    record {
+      wide = same_len_mid x.len (x.len + n - x.len) x.held c.copy_from_slice.new.self c.copy_from_slice.ensures.len ∙ x.wide;
+      few = omega (arith, x.few);
+    }
 
 pub returns : goal.returns
 returns c =

@@ -14,14 +14,14 @@ pub append-requires : goal.append-requires
 append-requires c =
     let m = meaning_of c.args.self.now.sessions in
     enter_puts m c.args.session c.args.length 0
-    (no_reason (why m (Enter c.args.session c.args.length 0)) (tt {0}) (tt {0}) c.in-ok-check-enter.ensures)
+    (no_reason (why m (Enter c.args.session c.args.length 0)) (tt {0}) (tt {0}) c.in_ok-check_enter.ensures)
 
 pub returns : goal.returns
 returns c = λ ok.
     let x = model_of c.args.self.now in
     let s = c.args.session in
     let reason = why x.meaning (Enter s c.args.length c.args.ticket) in
-    let none : reason ≡ None = no_reason reason (tt {0}) (tt {0}) c.in-ok-check-enter.ensures in
+    let none : reason ≡ None = no_reason reason (tt {0}) (tt {0}) c.in_ok-check_enter.ensures in
     let packet = c.unmarked-packet.ensures in
     record {
       answers = ap (λ p. Entered p.mark) packet ∙ sym (ap (λ w. entered (verdict w 0)) none);

@@ -5,8 +5,8 @@ use Rattle.sessions.specs.Verdicts.{after_served}
 use Rattle.first_come.specs.Stepping.{same_arrivals, same_keeps, finish_leaves}
 use Rattle.first_come.proofs.line.rule.FirstComeDiscipline.finish.Goals as goal
 
-pub invariant-of-self : goal.invariant-of-self
-invariant-of-self c =
+pub invariant_of-self : goal.invariant_of-self
+invariant_of-self c =
     same_keeps c.args.self.now c.finish.new.self
     (finish_leaves c.args.self.now c.finish.new.self c.finish.result c.finish.ensures.after)
 

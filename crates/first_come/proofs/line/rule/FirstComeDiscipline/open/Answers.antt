@@ -3,8 +3,8 @@ use Rattle.discipline.specs.Answers.{opened}
 use Rattle.first_come.specs.Stepping.{same_arrivals, same_keeps, open_leaves}
 use Rattle.first_come.proofs.line.rule.FirstComeDiscipline.open.Goals as goal
 
-pub invariant-of-self : goal.invariant-of-self
-invariant-of-self c =
+pub invariant_of-self : goal.invariant_of-self
+invariant_of-self c =
     same_keeps c.args.self.now c.open.new.self
     (open_leaves c.args.self.now c.open.new.self c.args.session c.args.weight c.args.limit c.open.ensures.after)
 

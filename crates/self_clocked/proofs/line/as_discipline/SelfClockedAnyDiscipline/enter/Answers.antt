@@ -9,8 +9,8 @@ returns g c = λ ok.
     let s = c.args.session in
     let n = c.args.length in
     let ticket = c.args.ticket in
-    let mark = c.in-ok-mark.mark in
-    let is = c.in-ok-mark.ensures in
+    let mark = c.in_ok-mark.mark in
+    let is = c.in_ok-mark.ensures in
     let may = admitted (state x) s n ticket mark is in
     step_entered (g.R.ReadyLine.tags y.ready) (state x) (state y) s n ticket mark is (c.place.ensures.after may.putting)
     (c.place.ensures.ready ok.ready may.putting)

@@ -11,12 +11,12 @@ use Rattle.self_clocked.proofs.line.as_discipline.SelfClockedAnyDiscipline.finis
 pub returns : goal.returns
 returns g c = λ ok.
     let x = c.args.self.now in
-    let y = c.reset-if-empty.new.self in
+    let y = c.reset_if_empty.new.self in
     let tags = g.R.ReadyLine.tags in
-    let same = c.reset-if-empty.ensures.sessions in
-    let done = c.in-ok-service.ensures in
-    step_finished (tags y.ready) (state x) (meaning_of y.sessions) x.lasts y.lasts y.clock c.in-ok-service.service refl done.answer
+    let same = c.reset_if_empty.ensures.sessions in
+    let done = c.in_ok-service.ensures in
+    step_finished (tags y.ready) (state x) (meaning_of y.sessions) x.lasts y.lasts y.clock c.in_ok-service.service refl done.answer
     (ap meaning_of same ∙ done.after)
-    (c.reset-if-empty.ensures.clock ∙ ap (λ (v : Sessions). while_waiting (meaning_of v) x.clock) (sym same))
-    (c.reset-if-empty.ensures.lasts ∙ ap (λ (v : Sessions). cond (eqb (all_waiting (meaning_of v)) 0) (replicate 64 0) x.lasts) (sym same))
-    (subst (λ r. Sound (tags r) (state x)) (sym c.reset-if-empty.ensures.ready) ok)
+    (c.reset_if_empty.ensures.clock ∙ ap (λ (v : Sessions). while_waiting (meaning_of v) x.clock) (sym same))
+    (c.reset_if_empty.ensures.lasts ∙ ap (λ (v : Sessions). cond (eqb (all_waiting (meaning_of v)) 0) (replicate 64 0) x.lasts) (sym same))
+    (subst (λ r. Sound (tags r) (state x)) (sym c.reset_if_empty.ensures.ready) ok)

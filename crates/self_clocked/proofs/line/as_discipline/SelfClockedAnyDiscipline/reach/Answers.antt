@@ -8,4 +8,4 @@ pub returns : goal.returns
 returns g c =
     let x = c.args.self.now in
     let s = c.args.session in
-    c.reach.ensures ∙ reach_is_asked (state x) s (open_in_order x.sessions s) c.in-ok-terms.terms c.in-ok-terms.ensures
+    c.reach.ensures ∙ reach_is_asked (state x) s (open_in_order x.sessions s) c.in_ok-terms.terms c.in_ok-terms.ensures

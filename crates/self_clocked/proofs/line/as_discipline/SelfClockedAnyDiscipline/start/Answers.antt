@@ -10,11 +10,11 @@ returns g c = λ ok.
     let y = c.serve.new.self in
     let m = meaning_of x.sessions in
     let tags = g.R.ReadyLine.tags x.ready in
-    let rest = g.R.ReadyLine.tags c.drop-least.new.self in
+    let rest = g.R.ReadyLine.tags c.drop_least.new.self in
     let mark = c.in-Some.mark in
     let s = c.in-Some.session in
     let least = c.in-Some.ensures.answer in
-    let none = (verdict_ok (why_start m) tt tt c.in-ok-check-start.ensures).0 in
+    let none = (verdict_ok (why_start m) tt tt c.in_ok-check_start.ensures).0 in
     let due = start_due tags rest m mark s none ok.ready least c.in-Some.ensures.after in
     step_started tags rest (g.R.ReadyLine.tags y.ready) (state x) (state y) mark s c.serve.result none ok.ready least due (c.serve.ensures.answer due)
     (c.serve.ensures.after due) (c.serve.ensures.ready due)

@@ -24,14 +24,14 @@ inside c =
 few : (c : goal.In-Ok) → c.loop-service.count ≤ 256
 few c = omega (arith, c.loop-service.invariant.1.left, at_most_256 c.finish.new.self.sessions)
 
-pub offset-bounds-tickets-count : goal.offset-bounds-tickets-count
-offset-bounds-tickets-count c = record { fits = omega (arith, few c) }
+pub offset_bounds-tickets-count : goal.offset_bounds-tickets-count
+offset_bounds-tickets-count c = record { fits = omega (arith, few c) }
 
 pub bounds-tickets-count : goal.bounds-tickets-count
 bounds-tickets-count c = inside c
 
-pub overflow-add-count : goal.overflow-add-count
-overflow-add-count c = record { fits = omega (arith, few c) }
+pub overflow_add-count : goal.overflow_add-count
+overflow_add-count c = record { fits = omega (arith, few c) }
 
 pub loop-service-preserved : goal.loop-service-preserved
 loop-service-preserved c =
@@ -52,10 +52,10 @@ returns c =
     let y = state c.finish.new.self in
     let z = state c.loop-service.self in
     let to = (c.finish.ensures c.requires.sound).0.after in
-    let refused = (c.in-default.ensures c.loop-service.invariant.0).0.answer in
+    let refused = (c.in_default.ensures c.loop-service.invariant.0).0.answer in
     let before = c.args.tickets.now in
     let tickets = c.loop-service.tickets in
-    let reason = c.in-default.field-0 in
+    let reason = c.in_default.field-0 in
     record {
       count = written_count x y z before tickets c.loop-service.count reason to c.loop-service.invariant.1 refused;
       tickets = written_all x y z before tickets c.loop-service.count reason to c.loop-service.invariant.1 refused;
