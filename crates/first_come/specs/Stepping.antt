@@ -28,9 +28,9 @@ use Rattle.first_come.specs.States.{model_of}
 use Rattle.first_come.specs.Entries.{entries_append}
 use Rattle.first_come.specs.Listing.{enter_lists, start_lists, earliest_waits}
 
--- the ghost fields, one within the other
+-- the ghost fields by their names
 abbrev pub Ghosts : Sessions → Ring → Type 0
-Ghosts sessions ring = (length ring.numbers ≡ 256) × ((ring.head < 256) × (ArrivalsListed sessions ring × Unit {0}))
+Ghosts sessions ring = record { places : length ring.numbers ≡ 256; head : ring.head < 256; listed : ArrivalsListed sessions ring }
 
 -- ---- new
 
@@ -42,10 +42,11 @@ module _ (sessions : Sessions) (ring : Ring) (empty : meaning_of sessions ≡ no
   no_arrivals = ap (entries_of ring) none_waits
 
   pub fresh_keeps : Ghosts sessions ring
-  fresh_keeps = (
-    ap length new.numbers,
-    (omega (arith, new.head), (λ s. ap (count_by (λ k. nat_eq k s)) no_arrivals ∙ sym (ap (λ m. length (waiting_in m s)) empty), tt)),
-  )
+  fresh_keeps = record {
+    places = ap length new.numbers;
+    head = omega (arith, new.head);
+    listed = λ s. ap (count_by (λ k. nat_eq k s)) no_arrivals ∙ sym (ap (λ m. length (waiting_in m s)) empty);
+  }
 
   pub fresh_model : ◌≡◌ {A = Model} (record { meaning = meaning_of sessions; arrivals = arrivals_in sessions ring }) new_model
   fresh_model = λ i. record { meaning = empty i; arrivals = no_arrivals i }
@@ -57,8 +58,11 @@ module _ (x : FirstCome) (after : Sessions) (same : (k : ℕ) → waiting_in (me
   same_arrivals = ap (entries_of x.ring) (same_all_waiting (meaning_of x.sessions) (meaning_of after) same)
 
   pub same_keeps : Ghosts after x.ring
-  same_keeps =
-      (x.places, (x.head, (λ s. ap (count_by (λ k. nat_eq k s)) same_arrivals ∙ x.listed s ∙ sym (ap length (same s)), tt)))
+  same_keeps = record {
+    places = x.places;
+    head = x.head;
+    listed = λ s. ap (count_by (λ k. nat_eq k s)) same_arrivals ∙ x.listed s ∙ sym (ap length (same s));
+  }
 
 pub open_leaves :
     (x : FirstCome) (after : Sessions) (s weight limit : ℕ) →
@@ -114,18 +118,13 @@ module _ (x : FirstCome) (s : ℕ) (packet : Packet) (after : Sessions) (count :
       (ap (λ n. (x.ring.head + n) % 256) counted)
 
   pub append_keeps : Ghosts after ring
-  append_keeps = (
-    ap (λ r. length r.numbers) is ∙ length-set x.ring.numbers ((x.ring.head + count) % 256) s ∙ x.places,
-    (
-      subst (λ r. r.head < 256) (sym is) x.head,
-      (
-        λ k. ap (count_by (λ n. nat_eq n k)) more_arrivals
-            ∙ enter_lists m (arrivals_in x.sessions x.ring) s packet can.is_open x.listed k
-            ∙ sym (ap (λ z. length (waiting_in z k)) entered),
-        tt,
-      ),
-    ),
-  )
+  append_keeps = record {
+    places = ap (λ r. length r.numbers) is ∙ length-set x.ring.numbers ((x.ring.head + count) % 256) s ∙ x.places;
+    head = subst (λ r. r.head < 256) (sym is) x.head;
+    listed = λ k. ap (count_by (λ n. nat_eq n k)) more_arrivals
+        ∙ enter_lists m (arrivals_in x.sessions x.ring) s packet can.is_open x.listed k
+        ∙ sym (ap (λ z. length (waiting_in z k)) entered);
+  }
 
   pub append_model : ◌≡◌ {A = Model} (record { meaning = meaning_of after; arrivals = arrivals_in after ring }) (appended (model_of x) s packet)
   append_model = λ i. record { meaning = entered i; arrivals = more_arrivals i }
@@ -208,18 +207,13 @@ module _ (x : FirstCome) where
       less_arrivals = ap (λ z. entries_of z (all_waiting (meaning_of after))) is ∙ ap (entries_of (advanced x.ring)) one_less
 
       pub start_keeps : Ghosts after ring
-      start_keeps = (
-        ap (λ z. length z.numbers) is ∙ x.places,
-        (
-          subst (λ z. z.head < 256) (sym is) (omega arith),
-          (
-            λ k. ap (count_by (λ n. nat_eq n k)) less_arrivals
-                ∙ start_lists before earliest later waits.0 waits.0 waits.1 waits.2 lists k
-                ∙ sym (ap (λ z. length (waiting_in z k)) started),
-            tt,
-          ),
-        ),
-      )
+      start_keeps = record {
+        places = ap (λ z. length z.numbers) is ∙ x.places;
+        head = subst (λ z. z.head < 256) (sym is) (omega arith);
+        listed = λ k. ap (count_by (λ n. nat_eq n k)) less_arrivals
+            ∙ start_lists before earliest later waits.0 waits.0 waits.1 waits.2 lists k
+            ∙ sym (ap (λ z. length (waiting_in z k)) started);
+      }
 
       pub start_model : ◌≡◌ {A = Model} (record { meaning = meaning_of after; arrivals = arrivals_in after ring }) (Models.after (model_of x) Start)
       unfolding taken

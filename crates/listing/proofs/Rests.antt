@@ -29,11 +29,9 @@ sound_from x ready clock lasts =
       idle = λ i. record { clock = clock i.none_waits i.none_served; last = λ j s. lasts s i.none_waits i.none_served j };
     }
 
-pub rests : (x : SelfClocked Heap) → Sound (heap_tags x) (state x) → ReadyFirsts x × (ClockRests x × (LastsRest x × Unit {0}))
-rests x ok = (
-  ap (map option_to_list) ok.ready,
-  (
-    λ none free. (ok.idle (record { none_waits = none; none_served = free })).clock,
-    (λ s none free. ap (λ last. last s) (ok.idle (record { none_waits = none; none_served = free })).last, tt),
-  ),
-)
+pub rests : (x : SelfClocked Heap) → Sound (heap_tags x) (state x) → record { ready : ReadyFirsts x; clock : ClockRests x; lasts : LastsRest x }
+rests x ok = record {
+  ready = ap (map option_to_list) ok.ready;
+  clock = λ none free. (ok.idle (record { none_waits = none; none_served = free })).clock;
+  lasts = λ s none free. ap (λ last. last s) (ok.idle (record { none_waits = none; none_served = free })).last;
+}

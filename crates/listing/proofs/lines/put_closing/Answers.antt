@@ -6,6 +6,6 @@ pub returns : goal.returns
 returns c =
     record {
       wrote =
-          wrote_both (omega arith) (wrote_both (omega arith) (wrote_both (omega arith) (wrote_both (omega arith) c.put-field-place.ensures.wrote c.put-field-place-2.ensures.wrote) c.put-octets-place.ensures.wrote) c.put-waiting-place.ensures.wrote) c.put.ensures.wrote;
+          wrote_both (omega arith) (wrote_both (omega arith) (wrote_both (omega arith) (wrote_both (omega arith) c.put_field-place.ensures.wrote c.put_field-place-2.ensures.wrote) c.put_octets-place.ensures.wrote) c.put_waiting-place.ensures.wrote) c.put.ensures.wrote;
       short = omega arith;
     }

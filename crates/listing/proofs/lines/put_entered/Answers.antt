@@ -7,6 +7,6 @@ pub returns : goal.returns
 returns c =
     record {
       wrote =
-          wrote_both (omega arith) (wrote_both (omega arith) (wrote_both (omega arith) c.put-at-place.ensures.wrote (wrote_as (codes " said=entered session=" ++ decimal c.session_of.result) (codes " said=entered session=" ++ decimal (session_of c.args.call)) (ap (λ n. codes " said=entered session=" ++ decimal n) c.session_of.ensures) c.put-field-place.ensures.wrote)) c.put-mark-place.ensures.wrote) c.put.ensures.wrote;
+          wrote_both (omega arith) (wrote_both (omega arith) (wrote_both (omega arith) c.put_at-place.ensures.wrote (wrote_as (codes " said=entered session=" ++ decimal c.session_of.result) (codes " said=entered session=" ++ decimal (session_of c.args.call)) (ap (λ n. codes " said=entered session=" ++ decimal n) c.session_of.ensures) c.put_field-place.ensures.wrote)) c.put_mark-place.ensures.wrote) c.put.ensures.wrote;
       short = omega arith;
     }

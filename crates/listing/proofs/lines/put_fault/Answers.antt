@@ -9,11 +9,11 @@ returns c =
       wrote =
           wrote_both (omega arith)
           (wrote_both (omega arith)
-          (wrote_both (omega arith) c.put-at-place.ensures.wrote
+          (wrote_both (omega arith) c.put_at-place.ensures.wrote
           (wrote_as (codes " said=fault number=" ++ decimal c.number.result) (codes " said=fault number=" ++ decimal (fault_number c.args.fault))
-          (ap (λ n. codes " said=fault number=" ++ decimal n) c.number.ensures) c.put-field-place.ensures.wrote))
+          (ap (λ n. codes " said=fault number=" ++ decimal n) c.number.ensures) c.put_field-place.ensures.wrote))
           (wrote_as (codes " field=" ++ decimal c.field.result) (codes " field=" ++ decimal (fault_field c.args.fault))
-          (ap (λ n. codes " field=" ++ decimal n) c.field.ensures) c.put-field-place-2.ensures.wrote))
+          (ap (λ n. codes " field=" ++ decimal n) c.field.ensures) c.put_field-place-2.ensures.wrote))
           c.put.ensures.wrote;
       short = omega arith;
     }

@@ -7,6 +7,6 @@ pub returns : goal.returns
 returns c =
     record {
       wrote =
-          wrote_both (omega arith) (wrote_both (omega arith) c.put-at-place.ensures.wrote (wrote_as (codes " said=refused number=" ++ decimal c.number.result) (codes " said=refused number=" ++ decimal (refusal_number c.args.reason)) (ap (λ n. codes " said=refused number=" ++ decimal n) c.number.ensures) c.put-field-place.ensures.wrote)) c.put.ensures.wrote;
+          wrote_both (omega arith) (wrote_both (omega arith) c.put_at-place.ensures.wrote (wrote_as (codes " said=refused number=" ++ decimal c.number.result) (codes " said=refused number=" ++ decimal (refusal_number c.args.reason)) (ap (λ n. codes " said=refused number=" ++ decimal n) c.number.ensures) c.put_field-place.ensures.wrote)) c.put.ensures.wrote;
       short = omega arith;
     }

@@ -6,6 +6,6 @@ pub returns : goal.returns
 returns c =
     record {
       wrote =
-          wrote_both (omega arith) (wrote_both (omega arith) (wrote_both (omega arith) (wrote_both (omega arith) c.put-at-place.ensures.wrote c.put-field-place.ensures.wrote) c.put-ticket-place.ensures.wrote) c.put-mark-place.ensures.wrote) c.put.ensures.wrote;
+          wrote_both (omega arith) (wrote_both (omega arith) (wrote_both (omega arith) (wrote_both (omega arith) c.put_at-place.ensures.wrote c.put_field-place.ensures.wrote) c.put_ticket-place.ensures.wrote) c.put_mark-place.ensures.wrote) c.put.ensures.wrote;
       short = omega arith;
     }

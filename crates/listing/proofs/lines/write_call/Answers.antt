@@ -10,9 +10,9 @@ returns-in-Open c =
       wrote =
           wrote_as _ _ (open_text c.in-Open.session c.in-Open.weight c.in-Open.limit ∙ ap call_text (sym c.in-Open.is))
           (wrote_both (omega arith)
-          (wrote_both (omega arith) c.put-field-at.ensures.wrote c.put-field-at-in-Open.ensures.wrote)
-          c.put-field.ensures.wrote);
-      short = omega (arith, c.put-field-at.ensures.short, c.put-field-at-in-Open.ensures.short, c.put-field.ensures.short);
+          (wrote_both (omega arith) c.put_field-at.ensures.wrote c.put_field-at-in-Open.ensures.wrote)
+          c.put_field.ensures.wrote);
+      short = omega (arith, c.put_field-at.ensures.short, c.put_field-at-in-Open.ensures.short, c.put_field.ensures.short);
     }
 
 pub returns-in-Enter : goal.returns-in-Enter
@@ -21,9 +21,9 @@ returns-in-Enter c =
       wrote =
           wrote_as _ _ (enter_text c.in-Enter.session c.in-Enter.length c.in-Enter.ticket ∙ ap call_text (sym c.in-Enter.is))
           (wrote_both (omega arith)
-          (wrote_both (omega arith) c.put-field-at-in-Enter.ensures.wrote c.put-field-at-in-Enter-2.ensures.wrote)
-          c.put-field-in-Enter.ensures.wrote);
+          (wrote_both (omega arith) c.put_field-at-in-Enter.ensures.wrote c.put_field-at-in-Enter-2.ensures.wrote)
+          c.put_field-in-Enter.ensures.wrote);
       short =
           omega
-          (arith, c.put-field-at-in-Enter.ensures.short, c.put-field-at-in-Enter-2.ensures.short, c.put-field-in-Enter.ensures.short);
+          (arith, c.put_field-at-in-Enter.ensures.short, c.put_field-at-in-Enter-2.ensures.short, c.put_field-in-Enter.ensures.short);
     }

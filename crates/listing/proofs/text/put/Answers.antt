@@ -6,7 +6,7 @@ pub returns : goal.returns
 returns c =
     record {
       wrote = record {
-        octets = put_part c.args.out.now c.args.at c.copy-from-slice.new.self c.args.piece.now c.copy-from-slice.ensures.after;
+        octets = put_part c.args.out.now c.args.at c.copy_from_slice.new.self c.args.piece.now c.copy_from_slice.ensures.after;
         place = refl;
       };
     }

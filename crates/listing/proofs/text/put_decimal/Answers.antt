@@ -4,8 +4,8 @@ use Rattle.listing.specs.Texts.{put_at}
 use Rattle.listing.proofs.Writing.{decimal_longer, put_digit, put_first}
 use Rattle.listing.proofs.text.put_decimal.Goals as goal
 
-pub overflow-sub-place : goal.overflow-sub-place
-overflow-sub-place c = omega (arith, decimal_nonempty c.args.number c.ranges.number.fits)
+pub overflow_sub-place : goal.overflow_sub-place
+overflow_sub-place c = omega (arith, decimal_nonempty c.args.number c.ranges.number.fits)
 
 pub loop-rest-init : goal.loop-rest-init
 loop-rest-init c =
@@ -15,8 +15,8 @@ loop-rest-init c =
 pub bounds-out-place : goal.bounds-out-place
 bounds-out-place c = omega arith
 
-pub overflow-sub-place-in-loop-rest : goal.overflow-sub-place-in-loop-rest
-overflow-sub-place-in-loop-rest c =
+pub overflow_sub-place-in-loop-rest : goal.overflow_sub-place-in-loop-rest
+overflow_sub-place-in-loop-rest c =
     omega (
       arith,
       decimal_longer c.loop-rest.rest c.loop-rest-test.true (omega arith),

@@ -1,8 +1,8 @@
 use Rattle.listing.proofs.Rests.{sound_from, rests}
 use Rattle.listing.proofs.lister.Lister.answer_to.Goals as goal
 
-pub invariant-of-self : goal.invariant-of-self
-invariant-of-self c =
+pub invariant_of-self : goal.invariant_of-self
+invariant_of-self c =
     let x = c.args.self.now in
     rests c.apply.new.line (c.apply.ensures (sound_from x.line x.ready x.clock x.lasts)).1
 

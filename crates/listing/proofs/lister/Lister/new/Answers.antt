@@ -5,8 +5,8 @@ use Rattle.listing.specs.Resting.{heap_tags}
 use Rattle.listing.proofs.Rests.{rests}
 use Rattle.listing.proofs.lister.Lister.new.Goals as goal
 
-pub invariant-of-result : goal.invariant-of-result
-invariant-of-result c = let x = c.new-2.result in rests x (fresh_sound (heap_tags x) (state x) c.new-2.ensures)
+pub invariant_of-result : goal.invariant_of-result
+invariant_of-result c = let x = c.new-2.result in rests x (fresh_sound (heap_tags x) (state x) c.new-2.ensures)
 
 pub returns : goal.returns
 returns c =

@@ -8,6 +8,6 @@ loop-session-init c = (closings_none (state c.args.self.now.line).meaning c.args
 
 pub loop-session-preserved : goal.loop-session-preserved
 loop-session-preserved c = (
-  closings_more (state c.args.self.now.line).meaning c.loop-session.session (omega (arith, c.requires)) c.loop-session.invariant.0 c.put-closing-end.ensures.wrote,
-  omega (arith, c.loop-session.invariant.1, c.put-closing-end.ensures.short),
+  closings_more (state c.args.self.now.line).meaning c.loop-session.session (omega (arith, c.requires)) c.loop-session.invariant.0 c.put_closing-end.ensures.wrote,
+  omega (arith, c.loop-session.invariant.1, c.put_closing-end.ensures.short),
 )

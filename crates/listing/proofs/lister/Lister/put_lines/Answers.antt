@@ -7,8 +7,8 @@ use Rattle.listing.proofs.lister.Lister.put_lines.Goals as goal
 pub loop-line-init : goal.loop-line-init
 loop-line-init c = listed_none (state c.args.self.now.line) c.args.trace.now c.args.out.now
 
-pub put-line-end-requires : goal.put-line-end-requires
-put-line-end-requires c =
+pub put_line-end-requires : goal.put_line-end-requires
+put_line-end-requires c =
     let line = c.in-Some.line.now in
     let left = c.in-Some.left.now in
     omega (
@@ -24,29 +24,29 @@ loop-line-preserved c =
     let left = c.in-Some.left.now in
     listed_more (state c.args.self.now.line) c.args.trace.now c.args.out.now (state c.loop-line.self.line) c.loop-line.at
     c.loop-line.rest.now c.loop-line.out c.loop-line.end c.loop-line.invariant line (lines_of left)
-    (lines_more c.loop-line.rest.now line left c.in-Some.ensures.parts) (state c.put-line-end.new.self.line) c.put-line-end.new.out
-    c.put-line-end.result c.put-line-end.ensures.wrote c.put-line-end.ensures.short c.put-line-end.ensures.after c.requires left
-    c.next-at-at.result refl c.next-at-at.ensures
+    (lines_more c.loop-line.rest.now line left c.in-Some.ensures.parts) (state c.put_line-end.new.self.line) c.put_line-end.new.out
+    c.put_line-end.result c.put_line-end.ensures.wrote c.put_line-end.ensures.short c.put_line-end.ensures.after c.requires left
+    c.next_at-at.result refl c.next_at-at.ensures
 
-pub returns-then-is-empty : goal.returns-then-is-empty
-returns-then-is-empty c =
+pub returns-then-is_empty : goal.returns-then-is_empty
+returns-then-is_empty c =
     let x = state c.args.self.now.line in
     let y = state c.loop-line.self.line in
     let rest = c.loop-line.rest.now in
-    let none = lines_none rest c.in-default.ensures.parts c.if-is-empty.ensures in
+    let none = lines_none rest c.in_default.ensures.parts c.if-is_empty.ensures in
     record {
       wrote = listed_all x c.args.trace.now c.args.out.now y c.loop-line.at rest c.loop-line.out c.loop-line.end c.loop-line.invariant none;
       short = omega (arith, c.loop-line.invariant.few);
       after = called_all x c.args.trace.now c.args.out.now y c.loop-line.at rest c.loop-line.out c.loop-line.end c.loop-line.invariant none;
     }
 
-pub put-line-requires : goal.put-line-requires
-put-line-requires c =
+pub put_line-requires : goal.put_line-requires
+put_line-requires c =
     let rest = c.loop-line.rest.now in
     omega (
       arith,
       listed_room (state c.args.self.now.line) c.args.trace.now c.args.out.now (state c.loop-line.self.line) c.loop-line.at rest
-          c.loop-line.out c.loop-line.end c.loop-line.invariant rest [] (lines_one rest c.in-default.ensures.parts c.if-is-empty.ensures),
+          c.loop-line.out c.loop-line.end c.loop-line.invariant rest [] (lines_one rest c.in_default.ensures.parts c.if-is_empty.ensures),
     )
 
 -- the last line, which no octet 10 ends, and then nothing is left
@@ -54,18 +54,18 @@ pub returns : goal.returns
 returns c =
     let x = state c.args.self.now.line in
     let y = state c.loop-line.self.line in
-    let z = state c.put-line.new.self.line in
+    let z = state c.put_line.new.self.line in
     let rest = c.loop-line.rest.now in
     let trace = c.args.trace.now in
     let before = c.args.out.now in
-    let out = c.put-line.new.out in
+    let out = c.put_line.new.out in
     let next = next_at c.loop-line.at in
-    let done : Listed x trace before z next [] out c.put-line.result =
+    let done : Listed x trace before z next [] out c.put_line.result =
     listed_more x trace before y c.loop-line.at rest c.loop-line.out c.loop-line.end c.loop-line.invariant rest []
-    (lines_one rest c.in-default.ensures.parts c.if-is-empty.ensures) z out c.put-line.result c.put-line.ensures.wrote
-    c.put-line.ensures.short c.put-line.ensures.after c.requires [] next refl refl in
+    (lines_one rest c.in_default.ensures.parts c.if-is_empty.ensures) z out c.put_line.result c.put_line.ensures.wrote
+    c.put_line.ensures.short c.put_line.ensures.after c.requires [] next refl refl in
     record {
-      wrote = listed_all x trace before z next [] out c.put-line.result done refl;
+      wrote = listed_all x trace before z next [] out c.put_line.result done refl;
       short = omega (arith, done.few);
-      after = called_all x trace before z next [] out c.put-line.result done refl;
+      after = called_all x trace before z next [] out c.put_line.result done refl;
     }

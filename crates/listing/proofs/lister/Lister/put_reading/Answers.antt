@@ -8,7 +8,7 @@ pub returns-in-Err : goal.returns-in-Err
 returns-in-Err c =
     let x = state c.args.self.now.line in
     record {
-      wrote = wrote_as _ _ (ap (said_of x c.args.reading.at) (sym c.in-Err.is)) c.put-fault.ensures.wrote;
-      short = c.put-fault.ensures.short;
+      wrote = wrote_as _ _ (ap (said_of x c.args.reading.at) (sym c.in-Err.is)) c.put_fault.ensures.wrote;
+      short = c.put_fault.ensures.short;
       after = ap (after_line x) (sym c.in-Err.is);
     }

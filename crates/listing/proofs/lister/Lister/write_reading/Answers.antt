@@ -4,10 +4,10 @@ use Rattle.listing.proofs.lister.Lister.write_reading.Goals as goal
 
 pub returns : goal.returns
 returns c =
-    let done = c.put-reading.ensures in
+    let done = c.put_reading.ensures in
     record {
       wrote = done.wrote;
       short = done.short;
       after = done.after;
-      fair = goes_on (state c.args.self.now.line) (state c.put-reading.new.self.line) c.args.reading.line done.after;
+      fair = goes_on (state c.args.self.now.line) (state c.put_reading.new.self.line) c.args.reading.line done.after;
     }
