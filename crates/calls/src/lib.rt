@@ -1,4 +1,6 @@
 // What is asked of a line, what it answers, and the numbers that both rest on.
+#![tactic(auto)]
+
 pub mod call;
 pub mod refusal;
 pub mod stride;

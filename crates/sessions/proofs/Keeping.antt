@@ -180,7 +180,7 @@ module _ (p : Parts) (g : Ghosts p) where
         terms = seat_set (λ k t. terms_within t ≡ true) p.seats s seat there within (λ k ne. g.terms k);
         closed =
             seat_set (λ k t. waiting_while_closed t (queue p.waiting k) ≡ 0) p.seats s seat there (open_empty seat _ opened)
-                (λ k ne. g.closed k);
+            (λ k ne. g.closed k);
         fits = g.fits;
         served = serves_set p.condition p.seats s seat there opened g.served;
       }
@@ -267,13 +267,13 @@ module _ (p : Parts) (g : Ghosts p) where
       let rests : moved p.condition Finished n ≡ resting n = ap (λ c. moved c Finished n) carried in
       let seats = set p.seats s (with_octets amount seat) in
       subst Ghosts (sym is) (
-        record {
-          seats = h.seats;
-          terms = h.terms;
-          closed = h.closed;
-          fits = ap (λ c. fits c n) rests ∙ fits_resting n;
-          served = ap (λ c. serves_open c seats) rests ∙ serves_either (eqb n 0) seats;
-        }
+      record {
+        seats = h.seats;
+        terms = h.terms;
+        closed = h.closed;
+        fits = ap (λ c. fits c n) rests ∙ fits_resting n;
+        served = ap (λ c. serves_open c seats) rests ∙ serves_either (eqb n 0) seats;
+      }
       )
 
 pub ghosts : (x : Sessions) → Ghosts x.parts

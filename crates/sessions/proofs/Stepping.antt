@@ -11,7 +11,7 @@ use Rattle.waiting.specs.Queues.{queue, first_of, rest_of, put, first_answer}
 use Rattle.waiting.specs.Queues as queues
 use Rattle.waiting.proofs.Using.{first_some, of_session_ok, of_session_err}
 use Rattle.sharing.specs.Rules.{open_refusal}
-use Rattle.sharing.specs.Meanings.{waiting_in, all_waiting, after_open, after_enter, after_start, after_finish}
+use Rattle.sharing.specs.Meanings.{waiting_in, after_open, after_enter, after_start, after_finish}
 use Rattle.sessions.specs.declared.condition.Condition.{Condition}
 use Rattle.sessions.specs.declared.condition.Condition.TheVariants.{Idle, Pausing, Carrying}
 use Rattle.sessions.specs.declared.condition.Event.TheVariants.{Entered, Started, Finished}
@@ -21,7 +21,7 @@ use Rattle.sessions.specs.Seats.{seat_at, is_open, new_seat, with_octets}
 use Rattle.sessions.specs.Conditions.{moved, free_from, service_of}
 use Rattle.sessions.specs.Steps.{with_seat, with_condition}
 use Rattle.sessions.specs.Meanings.{meaning_in, meaning_of}
-use Rattle.sessions.specs.Verdicts.{verdict, settled, why_open, why_put, taken, take_answer, after_take, served, finish_answer}
+use Rattle.sessions.specs.Verdicts.{verdict, settled, why_open, why_put, taken, take_answer, served, finish_answer}
 use Rattle.sessions.proofs.Reading.{open_is_some, waiting_is_queue, all_waiting_is_total}
 use Rattle.sessions.proofs.Keeping.{Ghosts, ghosts, no_reason, the_reason, openable, must_pause, carrying, serves_below, enter_keeps, start_keeps, finish_keeps}
 use Rattle.sessions.proofs.Using.{Puttable, put_parts}
