@@ -6,13 +6,13 @@ use discipline::cap::{Cap, CapNumber};
 use discipline::discipline::Discipline;
 use discipline::run::apply;
 use first_come::line::FirstCome;
-use listing::lines::write_answer;
 use ready::heap::Heap;
 use ready::line::ReadyLine;
 use ready::scan::Scan;
 use self_clocked::line::SelfClocked;
 use std::io;
 use std::io::{BufWriter, Write};
+use trace::listing::write_answer;
 
 // Prints what one line answers, with the name of the line before it.
 fn print_answer(

@@ -1,4 +1,3 @@
-pub mod Writing
 pub mod Rests
 pub mod Tellings
 pub mod Rows

@@ -14,9 +14,9 @@ use Rattle.trace.specs.Lines.{read_line}
 use Rattle.trace.specs.Streams.{last_line, ended, lines_of, next_at, readings_from, readings}
 use Rattle.trace.proofs.Parts.{split_more, split_last}
 use Rattle.trace.proofs.Chunks.{SomeParts, some_parts, split_parts}
-use Rattle.listing.specs.Texts.{Wrote}
+use Rattle.trace.specs.Texts.{Wrote}
 use Rattle.listing.specs.Listings.{ends_in, said_of, after_line, calls_of, told_on, closing_at, closing_line, closings_below}
-use Rattle.listing.proofs.Writing.{wrote_both, wrote_as, wrote_none}
+use Rattle.trace.proofs.Writing.{wrote_both, wrote_as, wrote_none}
 
 -- ---- the lines of a trace
 

@@ -14,8 +14,8 @@ use Rattle.self_clocked.specs.Rows.{new_line, answers_to, after_calls}
 use Rattle.trace.specs.declared.fault.LineFault.{LineFault}
 use Rattle.trace.specs.declared.reading.Reading.{Reading}
 use Rattle.trace.specs.Streams.{lines_of, readings}
-use Rattle.listing.specs.declared.lines.Closing.{Closing}
-use Rattle.listing.specs.Texts.{answer_text, fault_text, closing_text}
+use Rattle.trace.specs.declared.listing.Closing.{Closing}
+use Rattle.trace.specs.Texts.{answer_text, fault_text, closing_text}
 
 -- ---- one line of the trace, on a line of packets in the state x
 

@@ -1,22 +1,14 @@
 // The lines of a listing: what was said to each call or about each faulty line, and how each open session stands at the end.
 ghost use Rattle.std.specs.Prelude.{◌≡◌, ◌+◌, ◌≤◌, length};
 ghost use Rattle.calls.specs.declared.call.Answer.TheVariants.{Started, Finished, Refused, Entered, Opened};
-ghost use Rattle.trace.specs.Texts.{call_text};
-ghost use Rattle.listing.specs.Texts.{Wrote, numbered_line, ticket_text, length_text, mark_text, octets_text, waiting_text, session_of, answer_text, fault_text, closing_text};
+ghost use Rattle.trace.specs.Texts.{Wrote, numbered_line, session_of, answer_text, fault_text, closing_text};
+ghost use Rattle.listing.specs.Texts.{ticket_text, length_text, mark_text, octets_text, waiting_text};
 
 use crate::text::{put, put_field, put_wide_field};
 use calls::call::{Answer, Call, Packet};
 use calls::refusal::Refusal;
 use trace::fault::LineFault;
-
-// How an open session stands.
-#[derive(Clone, Copy)]
-pub struct Closing {
-    pub session: u32,
-    pub weight: u32,
-    pub octets: u64,
-    pub waiting: u32,
-}
+use trace::listing::Closing;
 
 // The session that the call names, 0 where it names none.
 fn session_of(call: Call) -> u32
@@ -195,57 +187,4 @@ pub(crate) fn put_closing(out: &mut [u8], start: usize, closing: Closing) -> usi
     let place = put_octets(out, place, closing);
     let place = put_waiting(out, place, closing);
     put(out, place, b"\n")
-}
-
-// Writes what was said to the call of this line to the front of the buffer, and answers the text's length.
-pub fn write_answer(at: u32, call: Call, answer: Answer, out: &mut [u8; 96]) -> usize
-    ensures wrote { Wrote out.old 0 (answer_text at call answer) out.new result }
-    ensures short { result ≤ 96 }
-{
-    put_answer(out, 0, at, call, answer)
-}
-
-// Writes the line about a faulty line to the front of the buffer, and answers the text's length.
-pub fn write_fault(at: u32, fault: LineFault, out: &mut [u8; 96]) -> usize
-    ensures wrote { Wrote out.old 0 (fault_text at fault) out.new result }
-    ensures short { result ≤ 96 }
-{
-    put_fault(out, 0, at, fault)
-}
-
-// Writes the closing line of a session to the front of the buffer, and answers the text's length.
-pub fn write_closing(closing: Closing, out: &mut [u8; 96]) -> usize
-    ensures wrote { Wrote out.old 0 (closing_text closing.session closing.weight closing.octets closing.waiting) out.new result }
-    ensures short { result ≤ 96 }
-{
-    put_closing(out, 0, closing)
-}
-
-// Writes the call as a line of a trace, without octet 10, to the front of the buffer, and answers its length.
-pub fn write_call(call: Call, out: &mut [u8; 96]) -> usize
-    ensures wrote { Wrote out.old 0 (call_text call) out.new result }
-    ensures short { result ≤ 63 }
-{
-    match call {
-        Call::Open {
-            session,
-            weight,
-            limit,
-        } => {
-            let at = put_field(out, 0, b"do=open session=", session);
-            let at = put_field(out, at, b" weight=", weight);
-            put_field(out, at, b" limit=", limit)
-        }
-        Call::Enter {
-            session,
-            length,
-            ticket,
-        } => {
-            let at = put_field(out, 0, b"do=enter session=", session);
-            let at = put_field(out, at, b" length=", length);
-            put_field(out, at, b" ticket=", ticket)
-        }
-        Call::Start => put(out, 0, b"do=start"),
-        Call::Finish => put(out, 0, b"do=finish"),
-    }
 }

@@ -1,6 +1,6 @@
 // Writing text into a caller's octets: words and decimal numbers, from a place on.
 ghost use Rattle.std.specs.Prelude.{◌≡◌, ◌+◌, ◌%◌, ◌<◌, ◌≤◌, [], ◌++◌, length, decimal};
-ghost use Rattle.listing.specs.Texts.{Wrote};
+ghost use Rattle.trace.specs.Texts.{Wrote};
 
 // Writes the piece, and answers the place behind it.
 pub(crate) fn put(out: &mut [u8], at: usize, piece: &[u8]) -> usize

@@ -5,7 +5,7 @@ ghost use Rattle.self_clocked.specs.Rows.{after_calls};
 ghost use Rattle.self_clocked.specs.States.{state};
 ghost use Rattle.trace.specs.Lines.{read_line};
 ghost use Rattle.trace.specs.Streams.{lines_of, readings};
-ghost use Rattle.listing.specs.Texts.{Wrote};
+ghost use Rattle.trace.specs.Texts.{Wrote};
 ghost use Rattle.listing.specs.Listings.{ends_in, said_of, after_line, calls_of, told_on, closings_below, listing, list_refusal, list_answer, listed_over};
 ghost use Rattle.listing.specs.Tellings.{Tells};
 

@@ -1,12 +1,26 @@
--- Calls as the text of trace lines.
-use Rattle.std.specs.Prelude.{ℕ, List, [], ◌∷◌, ◌++◌, codes, decimal}
+-- Text that is written into octets from a place on.
+use Rattle.std.specs.Prelude.{◌≡◌, ℕ, ◌+◌, List, [], ◌∷◌, ◌++◌, length, take, drop, codes, decimal}
 use Rattle.calls.specs.declared.call.Call.{Call}
 use Rattle.calls.specs.declared.call.Call.TheVariants.{Open, Enter, Start, Finish}
+use Rattle.calls.specs.Refusals.{refusal_number}
+use Rattle.calls.specs.declared.call.Answer.{Answer}
+use Rattle.calls.specs.declared.call.Answer.TheVariants.{Opened, Entered, Started, Finished, Refused}
+use Rattle.trace.specs.declared.fault.LineFault.{LineFault}
 use Rattle.trace.specs.declared.field.Key.{Key}
 use Rattle.trace.specs.declared.field.Key.TheVariants.{Session, Weight, Limit, Length, Ticket}
 use Rattle.trace.specs.declared.field.Order.{Order}
 use Rattle.trace.specs.declared.field.Order.TheVariants.{Open as OpenOrder, Enter as EnterOrder, Start as StartOrder, Finish as FinishOrder}
+use Rattle.trace.specs.Faults.{fault_number, fault_field}
 use Rattle.trace.specs.Fields.{key_name, order_name}
+
+-- what was there, with the piece over it from the place on
+unfoldable pub put_at : List ℕ → ℕ → List ℕ → List ℕ
+put_at out at piece = take at out ++ (piece ++ drop (at + length piece) out)
+
+-- the text was written over what was there, and `end` is the place behind it
+pub record Wrote (before : List ℕ) (at : ℕ) (text after : List ℕ) (end : ℕ) : Type 0 where
+  pub octets : after ≡ put_at before at text
+  pub place : end ≡ at + length text
 
 -- the parts with a separator s between each two
 abbrev pub join : ℕ → List (List ℕ) → List ℕ
@@ -30,3 +44,39 @@ call_fields Finish = order_text FinishOrder ∷ []
 -- the line that writes the call
 abbrev pub call_text : Call → List ℕ
 call_text call = join 32 (call_fields call)
+
+-- ---- the listing
+
+abbrev pub numbered_line : ℕ → List ℕ
+numbered_line at = codes "at=" ++ decimal at
+
+-- a faulty line is told by the fault's number and the place of its field
+abbrev pub fault_text : ℕ → LineFault → List ℕ
+fault_text at fault =
+    numbered_line at ++ (codes " said=fault number=" ++ decimal (fault_number fault)) ++ (codes " field=" ++ decimal (fault_field fault)) ++ codes "\n"
+
+-- the session that a call names, 0 where it names none
+abbrev pub session_of : Call → ℕ
+session_of (Open s w l) = s
+session_of (Enter s len t) = s
+session_of Start = 0
+session_of Finish = 0
+
+-- what was said to the call of this line
+abbrev pub answer_text : ℕ → Call → Answer → List ℕ
+answer_text at call Opened = numbered_line at ++ (codes " said=opened session=" ++ decimal (session_of call)) ++ codes "\n"
+answer_text at call (Entered mark) =
+    numbered_line at ++ (codes " said=entered session=" ++ decimal (session_of call)) ++ (codes " mark=" ++ decimal mark) ++ codes "\n"
+answer_text at call (Started s packet) =
+    numbered_line at ++ (codes " said=started session=" ++ decimal s) ++ (codes " ticket=" ++ decimal packet.ticket) ++
+    (codes " mark=" ++ decimal packet.mark) ++ codes "\n"
+answer_text at call (Finished s packet) =
+    numbered_line at ++ (codes " said=finished session=" ++ decimal s) ++ (codes " ticket=" ++ decimal packet.ticket) ++
+    (codes " length=" ++ decimal packet.length) ++ codes "\n"
+answer_text at call (Refused reason) = numbered_line at ++ (codes " said=refused number=" ++ decimal (refusal_number reason)) ++ codes "\n"
+
+-- the line of an open session at the end
+abbrev pub closing_text : ℕ → ℕ → ℕ → ℕ → List ℕ
+closing_text s weight octets waiting =
+    (codes "end=" ++ decimal s) ++ (codes " weight=" ++ decimal weight) ++ (codes " octets=" ++ decimal octets) ++
+    (codes " waiting=" ++ decimal waiting) ++ codes "\n"

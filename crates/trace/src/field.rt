@@ -1,7 +1,7 @@
 // A field of a trace line: what stands between two spaces.
 ghost use Rattle.std.specs.Prelude.{◌≡◌};
 ghost use Rattle.std.specs.Str.{bytes_eq};
-ghost use Rattle.trace.specs.Fields.{field_of, said_by, has_name, order_of};
+ghost use Rattle.trace.specs.Fields.{field_of, said_by, key_name, has_name, order_of};
 
 use crate::cut::split_once;
 
@@ -42,17 +42,24 @@ fn same(octets: &[u8], text: &[u8]) -> bool
 }
 
 impl Key {
+    // The key as it is written before the `=`.
+    pub fn name(self) -> &'static [u8]
+        ensures { result.now ≡ key_name self }
+    {
+        match self {
+            Key::Session => b"session",
+            Key::Weight => b"weight",
+            Key::Limit => b"limit",
+            Key::Length => b"length",
+            Key::Ticket => b"ticket",
+        }
+    }
+
     // Whether a field with this name before its `=` has this key.
     pub fn is_named(self, name: &[u8]) -> bool
         ensures { result ≡ has_name self name.now }
     {
-        match self {
-            Key::Session => same(name, b"session"),
-            Key::Weight => same(name, b"weight"),
-            Key::Limit => same(name, b"limit"),
-            Key::Length => same(name, b"length"),
-            Key::Ticket => same(name, b"ticket"),
-        }
+        same(name, self.name())
     }
 }
 

@@ -4,6 +4,8 @@ pub mod fault;
 pub mod field;
 pub mod laws;
 pub mod line;
+pub mod listing;
 pub mod number;
 pub mod reading;
 pub mod stream;
+mod text;

@@ -6,11 +6,11 @@ ghost use Rattle.sharing.specs.Clocked.{New};
 ghost use Rattle.self_clocked.specs.Exact.{Exact, answer_to, after};
 ghost use Rattle.self_clocked.specs.Rows.{new_line};
 ghost use Rattle.self_clocked.specs.States.{state};
-ghost use Rattle.listing.specs.Texts.{Wrote};
+ghost use Rattle.trace.specs.Texts.{Wrote};
 ghost use Rattle.listing.specs.Listings.{reading_text, after_reading, closing_at, closing_line};
 ghost use Rattle.listing.specs.Tellings.{GoesOn};
 
-use crate::lines::{Closing, put_answer, put_closing, put_fault};
+use crate::lines::{put_answer, put_closing, put_fault};
 use crate::lister::Lister;
 use crate::text::put_none;
 use calls::call::{Answer, Call};
@@ -18,6 +18,7 @@ use discipline::discipline::Discipline;
 use discipline::run::apply;
 use ready::heap::Heap;
 use self_clocked::line::SelfClocked;
+use trace::listing::Closing;
 use trace::reading::Reading;
 
 impl Lister {

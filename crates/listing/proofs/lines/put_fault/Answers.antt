@@ -1,6 +1,6 @@
 use Rattle.std.proofs.Common.{◌++◌, codes, decimal, ap, arith}
 use Rattle.trace.specs.Faults.{fault_number, fault_field}
-use Rattle.listing.proofs.Writing.{wrote_both, wrote_as}
+use Rattle.trace.proofs.Writing.{wrote_both, wrote_as}
 use Rattle.listing.proofs.lines.put_fault.Goals as goal
 
 pub returns : goal.returns

@@ -1,6 +1,6 @@
 use Rattle.std.proofs.Common.{◌++◌, codes, decimal, ap, arith}
-use Rattle.listing.specs.Texts.{session_of}
-use Rattle.listing.proofs.Writing.{wrote_both, wrote_as}
+use Rattle.trace.specs.Texts.{session_of}
+use Rattle.trace.proofs.Writing.{wrote_both, wrote_as}
 use Rattle.listing.proofs.lines.put_opened.Goals as goal
 
 pub returns : goal.returns

@@ -1,5 +1,5 @@
 use Rattle.std.proofs.Common.{arith}
-use Rattle.listing.proofs.Writing.{wrote_both}
+use Rattle.trace.proofs.Writing.{wrote_both}
 use Rattle.listing.proofs.lines.put_started.Goals as goal
 
 pub returns : goal.returns

@@ -1,5 +1,5 @@
 use Rattle.std.proofs.Common.{arith}
-use Rattle.listing.proofs.Writing.{decimal_over, decimal_at_most}
+use Rattle.trace.proofs.Writing.{decimal_over, decimal_at_most}
 use Rattle.listing.proofs.text.decimal_len.Goals as goal
 
 pub overflow_add-len : goal.overflow_add-len

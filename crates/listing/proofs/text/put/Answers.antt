@@ -1,5 +1,5 @@
 use Rattle.std.proofs.Common.{refl}
-use Rattle.listing.proofs.Writing.{put_part}
+use Rattle.trace.proofs.Writing.{put_part}
 use Rattle.listing.proofs.text.put.Goals as goal
 
 pub returns : goal.returns

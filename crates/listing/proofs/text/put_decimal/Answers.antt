@@ -1,7 +1,7 @@
 use Rattle.std.proofs.Common.{◌≡◌, ◌+◌, ◌/◌, ◌^◌, ◌<◌, length, set, decimal, refl, ap, ◌∙◌, arith}
 use Rattle.std.proofs.lemmas.Fmt.{decimal_nonempty}
-use Rattle.listing.specs.Texts.{put_at}
-use Rattle.listing.proofs.Writing.{decimal_longer, put_digit, put_first}
+use Rattle.trace.specs.Texts.{put_at}
+use Rattle.trace.proofs.Writing.{decimal_longer, put_digit, put_first}
 use Rattle.listing.proofs.text.put_decimal.Goals as goal
 
 pub overflow_sub-place : goal.overflow_sub-place

@@ -1,5 +1,5 @@
 use Rattle.std.proofs.Common.{◌≡◌, ◌+◌, ◌<◌, ◌≤◌, length, decimal}
-use Rattle.listing.specs.Texts.{put_at}
+use Rattle.trace.specs.Texts.{put_at}
 use Rattle.listing.proofs.text.put_decimal.Given as goal
 
 -- the digits that are left, over what is there, give the whole

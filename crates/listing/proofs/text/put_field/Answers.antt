@@ -1,5 +1,5 @@
 use Rattle.std.proofs.Common.{arith}
-use Rattle.listing.proofs.Writing.{wrote_both, decimal_short}
+use Rattle.trace.proofs.Writing.{wrote_both, decimal_short}
 use Rattle.listing.proofs.text.put_field.Goals as goal
 
 pub put_decimal-requires : goal.put_decimal-requires

@@ -1,4 +1,4 @@
-use Rattle.listing.proofs.Writing.{wrote_none}
+use Rattle.trace.proofs.Writing.{wrote_none}
 use Rattle.listing.proofs.text.put_none.Goals as goal
 
 pub returns : goal.returns

@@ -1,6 +1,6 @@
 use Rattle.std.proofs.Common.{◌+◌, ◌*◌, ◌≤◌}
 use Rattle.self_clocked.specs.States.{state}
-use Rattle.listing.specs.Texts.{Wrote}
+use Rattle.trace.specs.Texts.{Wrote}
 use Rattle.listing.specs.Listings.{closings_below}
 use Rattle.listing.proofs.lister.Lister.put_closings.Given as goal
 

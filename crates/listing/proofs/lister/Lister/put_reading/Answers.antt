@@ -1,7 +1,7 @@
 use Rattle.std.proofs.Common.{sym, ap}
 use Rattle.self_clocked.specs.States.{state}
 use Rattle.listing.specs.Listings.{said_of, after_line}
-use Rattle.listing.proofs.Writing.{wrote_as}
+use Rattle.trace.proofs.Writing.{wrote_as}
 use Rattle.listing.proofs.lister.Lister.put_reading.Goals as goal
 
 pub returns-in-Err : goal.returns-in-Err

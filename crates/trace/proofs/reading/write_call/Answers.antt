@@ -1,8 +1,8 @@
 use Rattle.std.proofs.Common.{◌++◌, codes, decimal, sym, ap, ◌∙◌, arith}
 use Rattle.trace.specs.Texts.{call_text}
 use Rattle.trace.proofs.ReadBack.{open_text, enter_text}
-use Rattle.listing.proofs.Writing.{wrote_both, wrote_as}
-use Rattle.listing.proofs.lines.write_call.Goals as goal
+use Rattle.trace.proofs.Writing.{wrote_both, wrote_as}
+use Rattle.trace.proofs.reading.write_call.Goals as goal
 
 pub returns-in-Open : goal.returns-in-Open
 returns-in-Open c =

@@ -5,7 +5,7 @@ use borrow.Rule.Slice.PartMut.{put_mid, post_of}
 use Rattle.std.proofs.lemmas.List.{append_assoc, append-nil, length-append, length-take-le, length-drop, take_at, take-set-le, take-append-drop, drop_at, drop-drop, drop-set, length_push}
 use Rattle.std.proofs.lemmas.Fmt.{decimal_digit, decimal_step, length-decimal-le}
 use Rattle.trace.proofs.OneText.{decimal_one}
-use Rattle.listing.specs.Texts.{put_at, Wrote}
+use Rattle.trace.specs.Texts.{put_at, Wrote}
 
 module _ (out : List ℕ) (at : ℕ) (within : at ≤ length out) where
   head_length : length (take at out) ≡ at
