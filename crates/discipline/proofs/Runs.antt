@@ -27,15 +27,14 @@ module _ {X : Type 0} (fresh : X → Type 0) (steps : X → Call → Answer → 
       (earlier.0, earlier.1, holds before earlier.0 earlier.1)
 
   -- and where a run goes on
-  pub effect_with : (sound : X → Type 0) (meaning : X → Meaning) (P Q : History → Meaning → Type 0) → ((h : History) (x : X) → Led fresh steps h x → Q h (meaning x)) →
-      (calls : List Call) (before after : List Answer) (x y : X) (r : Result ℕ Refusal) → RunEffect fresh sound steps meaning P calls before after x y r →
-      RunEffect fresh sound steps meaning Q calls before after x y r
-  effect_with sound meaning P Q holds calls before after x y (Ok count) run =
+  pub effect_with : (meaning : X → Meaning) (P Q : History → Meaning → Type 0) → ((h : History) (x : X) → Led fresh steps h x → Q h (meaning x)) →
+      (calls : List Call) (before after : List Answer) (x y : X) (r : Result ℕ Refusal) → RunEffect fresh steps meaning P calls before after x y r →
+      RunEffect fresh steps meaning Q calls before after x y r
+  effect_with meaning P Q holds calls before after x y (Ok count) run =
       record {
-        made = run.made;
         led = run.led;
         holds = λ h began. holds (extended h calls after) y (run.led h began);
         moments = λ h began. at_moments meaning Q holds (extended h calls after) y (run.led h began);
         beyond = run.beyond;
       }
-  effect_with sound meaning P Q holds calls before after x y (Err reason) same = same
+  effect_with meaning P Q holds calls before after x y (Err reason) same = same

@@ -12,10 +12,8 @@ use Rattle.sharing.specs.Runs.{Led, extended}
 abbrev pub run_answer : List Call → List Answer → Result ℕ Refusal
 run_answer calls answers = cond (nat_le (length calls) (length answers)) (Ok (length calls)) (Err ShortBuffer)
 
-pub record Continues {X : Type 0} (fresh sound : X → Type 0) (steps : X → Call → Answer → X → Type 0) (meaning : X → Meaning)
+pub record Continues {X : Type 0} (fresh : X → Type 0) (steps : X → Call → Answer → X → Type 0) (meaning : X → Meaning)
     (Statement : History → Meaning → Type 0) (calls : List Call) (before after : List Answer) (x y : X) : Type 0 where
-  -- the calls with their answers are a run from x to y
-  pub made : sound x → Led (λ z. z ≡ x) steps (extended [] calls after) y
   -- whatever history led to x: with these calls and their answers added it led to y
   pub led : (h : History) → Led fresh steps h x → Led fresh steps (extended h calls after) y
   -- and the statement holds of it
@@ -27,7 +25,12 @@ pub record Continues {X : Type 0} (fresh sound : X → Type 0) (steps : X → Ca
   pub beyond : drop (length calls) after ≡ drop (length calls) before
 
 -- what a row of calls did, by its result: a refused one nothing
-abbrev pub RunEffect : {X : Type 0} → (X → Type 0) → (X → Type 0) → (X → Call → Answer → X → Type 0) → (X → Meaning) → (History → Meaning → Type 0) → List Call →
+abbrev pub RunEffect : {X : Type 0} → (X → Type 0) → (X → Call → Answer → X → Type 0) → (X → Meaning) → (History → Meaning → Type 0) → List Call →
     List Answer → List Answer → X → X → Result ℕ Refusal → Type 0
-RunEffect fresh sound steps meaning Statement calls before after x y (Ok count) = Continues fresh sound steps meaning Statement calls before after x y
-RunEffect fresh sound steps meaning Statement calls before after x y (Err reason) = (y ≡ x) × (after ≡ before)
+RunEffect fresh steps meaning Statement calls before after x y (Ok count) = Continues fresh steps meaning Statement calls before after x y
+RunEffect fresh steps meaning Statement calls before after x y (Err reason) = (y ≡ x) × (after ≡ before)
+
+-- the calls with their answers are a run by these steps from x to y; a row that is refused makes none
+abbrev pub Made : {X : Type 0} → (X → Call → Answer → X → Type 0) → List Call → List Answer → X → X → Result ℕ Refusal → Type 0
+Made steps calls after x y (Ok count) = Led (λ z. z ≡ x) steps (extended [] calls after) y
+Made steps calls after x y (Err reason) = Unit {0}

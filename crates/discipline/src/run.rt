@@ -1,7 +1,7 @@
 // Calls in a row on any discipline, and what every history of them keeps.
 ghost use Rattle.std.specs.Prelude.{◌≡◌};
 ghost use Rattle.sharing.specs.Statements.{OrderPreserved, Fair};
-ghost use Rattle.discipline.specs.Continues.{run_answer, RunEffect};
+ghost use Rattle.discipline.specs.Continues.{run_answer, RunEffect, Made};
 
 use crate::discipline::{Discipline, SelfClockedDiscipline};
 use calls::call::{Answer, Call};
@@ -52,7 +52,8 @@ pub fn run<D: Discipline>(
     answers: &mut [Answer],
 ) -> Result<usize, Refusal>
     ensures answer { result ≡ run_answer calls.now answers.old }
-    ensures effect { RunEffect D.Discipline.fresh D.Discipline.sound D.Discipline.steps D.Discipline.meaning OrderPreserved calls.now answers.old answers.new line.old line.new result }
+    ensures effect { RunEffect D.Discipline.fresh D.Discipline.steps D.Discipline.meaning OrderPreserved calls.now answers.old answers.new line.old line.new result }
+    ensures made { D.Discipline.sound line.old → Made D.Discipline.steps calls.now answers.new line.old line.new result }
 {
     if answers.len() < calls.len() {
         return Err(Refusal::ShortBuffer);
@@ -70,7 +71,8 @@ pub fn run_self_clocked<D: SelfClockedDiscipline>(
     answers: &mut [Answer],
 ) -> Result<usize, Refusal>
     ensures answer { result ≡ run_answer calls.now answers.old }
-    ensures effect { RunEffect D.Discipline.fresh D.Discipline.sound D.Discipline.steps D.Discipline.meaning Fair calls.now answers.old answers.new line.old line.new result }
+    ensures effect { RunEffect D.Discipline.fresh D.Discipline.steps D.Discipline.meaning Fair calls.now answers.old answers.new line.old line.new result }
+    ensures made { D.Discipline.sound line.old → Made D.Discipline.steps calls.now answers.new line.old line.new result }
 {
     run(line, calls, answers)
 }

@@ -10,19 +10,19 @@ use Rattle.sharing.specs.Statements.{Fair}
 use Rattle.sharing.proofs.Runs.{led_along}
 use Rattle.ready.specs.Tags.{Tags}
 use Rattle.sessions.specs.Meanings.{meaning_of}
-use Rattle.discipline.specs.Continues.{RunEffect}
+use Rattle.discipline.specs.Continues.{RunEffect, Made}
 use Rattle.discipline.specs.Caps.{cap_refusal, StepUnder}
 use Rattle.discipline.specs.declared.cap.Cap.{Cap}
 use Rattle.self_clocked.specs.declared.line.SelfClocked.{SelfClocked}
 use Rattle.self_clocked.specs.Exact.{Exact, Sound}
 use Rattle.self_clocked.specs.States.{state}
-use Rattle.self_clocked.specs.Whole.{WholeRun, Made, Capped, LedBy}
+use Rattle.self_clocked.specs.Whole.{WholeRun, Capped, LedBy}
 
 pub whole_run : {X : Type 0} (fresh sound : X → Type 0) (steps : X → Call → Answer → X → Type 0) (meaning : X → Meaning) (clocked : X → Clocked)
     (moves : Clocked → Call → Answer → Clocked → Type 0) → ((x : X) → fresh x → sound x) →
     ((x y : X) (c : Call) (a : Answer) → sound x → steps x c a y → sound y) → ((x : X) → (clocked x).meaning ≡ meaning x) →
     ((x : X) → fresh x → New (clocked x)) → ((x y : X) (c : Call) (a : Answer) → sound x → steps x c a y → moves (clocked x) c a (clocked y)) →
-    (calls : List Call) (before after : List Answer) (x y : X) (r : Result ℕ Refusal) → fresh x → RunEffect fresh sound steps meaning Fair calls before after x y r →
+    (calls : List Call) (before after : List Answer) (x y : X) (r : Result ℕ Refusal) → fresh x → RunEffect fresh steps meaning Fair calls before after x y r →
     WholeRun moves calls before after r
 whole_run fresh sound steps meaning clocked moves begins keeps same new does calls before after x y (Ok count) began run =
     record {
@@ -38,12 +38,6 @@ whole_run fresh sound steps meaning clocked moves begins keeps same new does cal
       beyond = run.beyond;
     }
 whole_run fresh sound steps meaning clocked moves begins keeps same new does calls before after x y (Err reason) began run = run.1
-
-pub run_made : {X : Type 0} (fresh sound : X → Type 0) (steps : X → Call → Answer → X → Type 0) (meaning : X → Meaning) (calls : List Call)
-    (before after : List Answer) (x y : X) (r : Result ℕ Refusal) → sound x → RunEffect fresh sound steps meaning Fair calls before after x y r →
-    Made steps calls after x y r
-run_made fresh sound steps meaning calls before after x y (Ok count) ok run = run.made ok
-run_made fresh sound steps meaning calls before after x y (Err reason) ok run = tt
 
 -- ---- under two caps
 

@@ -25,11 +25,6 @@ abbrev pub WholeRun : (Clocked → Call → Answer → Clocked → Type 0) → L
 WholeRun steps calls before after (Ok count) = RunBy steps calls before after
 WholeRun steps calls before after (Err reason) = after ≡ before
 
--- the calls and their answers are a run by these steps from x to y; a run that is refused makes none
-abbrev pub Made : {X : Type 0} → (X → Call → Answer → X → Type 0) → List Call → List Answer → X → X → Result ℕ Refusal → Type 0
-Made steps calls after x y (Ok count) = Led (λ z. z ≡ x) steps (extended [] calls after) y
-Made steps calls after x y (Err reason) = Unit {0}
-
 -- ---- under caps
 
 -- a step under a cap: a call that the cap refuses changes nothing, any other is a step of what is below it

@@ -1,9 +1,9 @@
 // Whole lines, made here: what is promised of their runs has no premise.
 ghost use Rattle.std.specs.Prelude.{◌≡◌};
-ghost use Rattle.discipline.specs.Continues.{run_answer};
+ghost use Rattle.discipline.specs.Continues.{run_answer, Made};
 ghost use Rattle.sharing.specs.Clocked.{ClockedStep};
 ghost use Rattle.self_clocked.specs.Exact.{Exact};
-ghost use Rattle.self_clocked.specs.Whole.{WholeRun, Made, Capped, LedBy};
+ghost use Rattle.self_clocked.specs.Whole.{WholeRun, Capped, LedBy};
 
 use crate::line::SelfClocked;
 use calls::call::{Answer, Call};

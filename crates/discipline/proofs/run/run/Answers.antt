@@ -34,10 +34,10 @@ returns g c =
     record {
       answer = search rules;
       effect = record {
-        made = λ ok. rw (take_all _ _ c.loop-i-test.false) at (c.loop-i.invariant.2 ok);
         led = led;
         holds = λ h began. ordered _ c.loop-i.line (led h began);
         moments = λ h began. at_moments d.fresh d.steps d.meaning OrderPreserved ordered _ c.loop-i.line (led h began);
         beyond = c.loop-i.invariant.3;
       };
+      made = λ ok. rw (take_all _ _ c.loop-i-test.false) at (c.loop-i.invariant.2 ok);
     }

@@ -12,11 +12,12 @@ returns g c =
     record {
       answer = c.run.ensures.answer;
       effect =
-          effect_with d.fresh d.steps d.sound d.meaning OrderPreserved Fair
+          effect_with d.fresh d.steps d.meaning OrderPreserved Fair
           (λ h x led.
           subst (Fair h) (clocked-met.clocked_meaning x)
           (runs_share d.fresh d.sound d.steps g.D.SelfClockedDiscipline.clocked met.begins met.keeps clocked-met.clocked_new
           clocked-met.clocked_steps h x led))
           c.args.calls.now c.args.answers.now c.run.new.answers c.args.line.now c.run.new.line c.run.result
           c.run.ensures.effect;
+      made = c.run.ensures.made;
     }

@@ -1,5 +1,5 @@
 use Rattle.sharing.specs.Clocked.{ClockedStep}
-use Rattle.self_clocked.proofs.Wholes.{whole_run, run_made}
+use Rattle.self_clocked.proofs.Wholes.{whole_run}
 use Rattle.self_clocked.proofs.whole.run_new.Goals as goal
 
 pub returns : goal.returns
@@ -14,8 +14,5 @@ returns g c =
           clocked-met.clocked_meaning clocked-met.clocked_new clocked-met.clocked_steps c.args.calls.now c.args.answers.now
           c.run_self_clocked.new.answers c.args.line.now c.run_self_clocked.new.line c.run_self_clocked.result c.requires
           c.run_self_clocked.ensures.effect;
-      made =
-          run_made d.fresh d.sound d.steps d.meaning c.args.calls.now c.args.answers.now c.run_self_clocked.new.answers
-          c.args.line.now c.run_self_clocked.new.line c.run_self_clocked.result (met.begins c.args.line.now c.requires)
-          c.run_self_clocked.ensures.effect;
+      made = c.run_self_clocked.ensures.made (met.begins c.args.line.now c.requires);
     }
