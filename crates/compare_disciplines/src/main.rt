@@ -1,5 +1,7 @@
 // Runs one list of calls on four new lines and prints what each answers, side by side: self-clocked over the heap, over the scan,
 // first come, and self-clocked under two caps. Then it fills a line, lets a session come back after a pause, and looks ahead.
+#![tactic(auto)]
+
 use calls::call::{Answer, Call};
 use calls::refusal::Refusal;
 use discipline::cap::{Cap, CapNumber};

@@ -1,5 +1,7 @@
 // Feeds one list of steps to the heap and to the scan and prints what each answers, and sends packets of three sessions through
 // the table of waiting packets.
+#![tactic(auto)]
+
 use calls::call::Packet;
 use calls::refusal::Refusal;
 use ready::entry::Entry;

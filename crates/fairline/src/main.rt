@@ -1,4 +1,6 @@
 // fairline: reads a trace from standard input, runs it on a new self-clocked line over the heap, and prints the listing.
+#![tactic(auto)]
+
 use listing::lister::Lister;
 use std::io;
 use std::io::{BufWriter, Read, Write};

@@ -1,4 +1,6 @@
 // The one call for hosts in C or Rust.
+#![tactic(auto)]
+
 ghost use Rattle.std.specs.Prelude.{◌≡◌, ◌≤◌, IfOk};
 ghost use Rattle.listing.specs.Listings.{list_answer, listed_over, listing};
 ghost use Rattle.listing.specs.Tellings.{Tells};

@@ -1,3 +1,5 @@
 // First come, first served: the packet that entered earliest starts first.
+#![tactic(auto)]
+
 pub mod line;
 mod ring;

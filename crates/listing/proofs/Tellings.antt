@@ -1,22 +1,19 @@
 -- What a listing tells is a history, line by line.
-use Rattle.std.proofs.Common.{◌≡◌, ℕ, List, [], ◌∷◌, ◌++◌, Ok, Err, Result, sym, refl, ap, ◌∙◌, subst}
+use Rattle.std.proofs.Common.{◌≡◌, List, [], ◌∷◌, ◌++◌, Ok, Err, Result, sym, refl, ap, ◌∙◌, subst}
 use Rattle.std.proofs.lemmas.List.{append_assoc, append-nil}
 use Rattle.calls.specs.declared.call.Call.{Call}
-use Rattle.calls.specs.declared.call.Answer.{Answer}
 use Rattle.sharing.specs.Histories.{History}
 use Rattle.sharing.specs.Runs.{Led}
-use Rattle.sharing.specs.Statements.{Fair}
 use Rattle.sharing.specs.Clocked.{Clocked, New}
 use Rattle.sharing.proofs.Runs.{led_before}
 use Rattle.self_clocked.specs.Exact.{Exact, answer_to, after}
 use Rattle.self_clocked.specs.Rows.{new_line, answers_to, after_calls}
 use Rattle.self_clocked.proofs.Exacts.{exact_fair}
 use Rattle.trace.specs.declared.fault.LineFault.{LineFault}
-use Rattle.trace.specs.declared.reading.Reading.{Reading}
 use Rattle.trace.specs.Streams.{readings}
 use Rattle.trace.proofs.Chunks.{cuts_do_not_matter}
 use Rattle.listing.specs.Listings.{after_line, calls_of, told, told_on, closings_below, listing_of, listing}
-use Rattle.listing.specs.Tellings.{called, answered, Tells, ListingsTellHistories, CutsLeaveTheListing, with_line, GoesOn}
+use Rattle.listing.specs.Tellings.{called, answered, ListingsTellHistories, CutsLeaveTheListing, with_line, GoesOn}
 
 -- ---- one line
 

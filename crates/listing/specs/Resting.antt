@@ -1,5 +1,5 @@
 -- What always holds of the line that a lister has, each part as a fact that a struct can hold.
-use Rattle.std.specs.Prelude.{◌≡◌, ℕ, List, map, take, None, slice_index}
+use Rattle.std.specs.Prelude.{◌≡◌, ℕ, map, take, None, slice_index}
 use Rattle.std.specs.Option.{option_to_list}
 use Rattle.ready.specs.Tags.{Tags}
 use Rattle.ready.specs.Heaps.{tags_of}

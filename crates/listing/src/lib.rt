@@ -1,4 +1,6 @@
 // The listing of a trace: the text of its lines, and the whole of it.
+#![tactic(auto)]
+
 pub mod laws;
 pub mod lines;
 pub mod lister;

@@ -1,5 +1,5 @@
 -- The order in which waiting packets start is that of their marks and then of their sessions, and has each of them once.
-use Rattle.std.proofs.Common.{◌≡◌, ℕ, zero, suc, ◌+◌, ◌<◌, ◌≤◌, cond, ◌⊎◌, List, [], ◌∷◌, ◌++◌, length, None, sym, refl, ap, ◌∙◌, subst, inl, inr, arith}
+use Rattle.std.proofs.Common.{◌≡◌, ℕ, zero, suc, ◌≤◌, cond, ◌⊎◌, List, [], ◌∷◌, ◌++◌, length, None, sym, refl, ap, ◌∙◌, subst, inl, inr, arith}
 use Rattle.std.specs.List.{AllByRecursion as All}
 use Rattle.std.proofs.lemmas.Bool.{cases_eq, eq-eqb, ne_eqb}
 use Rattle.std.proofs.lemmas.Bool.Decides.{nat_tests}
@@ -9,15 +9,14 @@ use Rattle.calls.specs.declared.call.Service.{Service}
 use Rattle.calls.specs.declared.call.Call.TheVariants.{Start, Finish}
 use Rattle.ready.specs.Order.{AtMost}
 use Rattle.ready.specs.Orders.{at_most_through}
-use Rattle.sharing.specs.Histories.{packet_of}
 use Rattle.sharing.specs.Meanings.{Meaning, waiting_in, all_waiting, after_first, after_start, served_of}
 use Rattle.sharing.specs.Clocked.{Clocked}
 use Rattle.sharing.proofs.Tags.{Chained, Tagged}
 use Rattle.sharing.proofs.Views.{weight, most}
 use Rattle.sharing.proofs.Steps.{view, Sound, none_waits}
 use Rattle.sessions.proofs.Using.{start_waiting_here, start_waiting_there}
-use Rattle.self_clocked.specs.Exact.{refusal_of, answer_to, after}
-use Rattle.self_clocked.specs.Previews.{started_by, start_order, of_session, entry, ByMarkAndSession, Ordered, OrderIsByMarkAndSession}
+use Rattle.self_clocked.specs.Exact.{answer_to, after}
+use Rattle.self_clocked.specs.Previews.{start_order, of_session, entry, ByMarkAndSession, Ordered, OrderIsByMarkAndSession}
 use Rattle.self_clocked.proofs.Exacts.{sound_waits, exact_keeps, exact_sound}
 use Rattle.self_clocked.proofs.Orders.{Begins, begins, finish_rests, finish_waits, order_none, order_finish, order_start, may_start}
 

@@ -1,5 +1,5 @@
 -- Each call as it is made is the exact step, and the line is sound after it.
-use Rattle.std.specs.Prelude.{◌≡◌, ℕ, zero, suc, Bool, true, false, cond, List, [], ◌∷◌, length, replicate, is_some, Some, None, Ok, Option, Result, ◌==◌, nat_eq, slice_index, slice_set, refl}
+use Rattle.std.specs.Prelude.{◌≡◌, ℕ, zero, suc, Bool, true, false, cond, List, [], ◌∷◌, replicate, is_some, Some, None, Ok, Option, Result, ◌==◌, nat_eq, slice_index, slice_set, refl}
 use Rattle.std.proofs.Common.{sym, ap, subst, ◌∙◌, arith}
 use Rattle.std.proofs.lemmas.List.{get_or-replicate}
 use Rattle.calls.specs.declared.call.Packet.{Packet}

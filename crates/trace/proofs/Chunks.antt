@@ -1,12 +1,12 @@
 -- Wherever a trace is cut into chunks, the same lines are read.
-use Rattle.std.proofs.Common.{◌≡◌, ℕ, zero, suc, ◌+◌, ◌-◌, ◌<◌, ◌≤◌, Bool, true, false, cond, eqb, List, [], ◌∷◌, ◌++◌, length, take, Some, None, sym, refl, ap, ◌∙◌, subst, ⊎_elim, arith}
-use Rattle.std.proofs.lemmas.List.{append_assoc, append-nil, length-take-le, take_all, take-append-le}
-use Rattle.std.proofs.lemmas.Bool.{cases_lt, cond_both}
+use Rattle.std.proofs.Common.{◌≡◌, ℕ, zero, suc, Bool, true, false, cond, eqb, List, [], ◌∷◌, ◌++◌, take, sym, refl, ap, ◌∙◌, subst}
+use Rattle.std.proofs.lemmas.List.{append_assoc, append-nil}
+use Rattle.std.proofs.lemmas.Bool.{cond_both}
 use Rattle.std.specs.List.{flat_map}
 use Rattle.trace.specs.declared.reading.Reading.{Reading}
 use Rattle.trace.specs.Cuts.{split, onto_first}
 use Rattle.trace.specs.Lines.{read_line}
-use Rattle.trace.specs.Streams.{Stream, begin, kept, next_at, line_ended, after_line, after_part, last_reading, held_reading, Reads, no_more, one_more, ReadsAll, at_end, chunk_first, listed, CutsDoNotMatter, readings, readings_from, ended, last_line}
+use Rattle.trace.specs.Streams.{Stream, begin, kept, next_at, line_ended, after_line, after_part, last_reading, held_reading, Reads, no_more, one_more, ReadsAll, at_end, chunk_first, listed, CutsDoNotMatter, readings_from, ended, last_line}
 use Rattle.trace.proofs.Parts.{split_more, split_last}
 use Rattle.trace.proofs.Streaming.{kept_reads}
 

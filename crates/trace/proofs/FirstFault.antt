@@ -1,11 +1,9 @@
 -- A line's fault is that of its first wrong field.
-use Rattle.std.proofs.Common.{◌≡◌, ℕ, zero, suc, ◌+◌, ◌<◌, ◌≤◌, Bool, true, false, cond, ltb, List, [], ◌∷◌, length, Some, None, Ok, Err, Option, Result, sym, refl, ap, ◌∙◌, subst, arith}
+use Rattle.std.proofs.Common.{◌≡◌, ℕ, zero, suc, ◌+◌, ◌<◌, Bool, true, false, cond, ltb, List, [], ◌∷◌, length, Some, None, Ok, Err, Option, Result, sym, refl, ap, ◌∙◌, arith}
 use Rattle.std.specs.Option.{option_map}
 use Rattle.calls.specs.declared.call.Call.{Call}
-use Rattle.trace.specs.declared.fault.BadNumber.{BadNumber}
 use Rattle.trace.specs.declared.fault.FieldFault.{FieldFault}
 use Rattle.trace.specs.declared.fault.FieldFault.TheVariants.{Malformed, Number}
-use Rattle.trace.specs.declared.fault.LineFault.{LineFault}
 use Rattle.trace.specs.declared.fault.LineFault.TheVariants.{TooLong, Field}
 use Rattle.trace.specs.declared.field.Key.{Key}
 use Rattle.trace.specs.declared.field.Order.{Order}
@@ -14,7 +12,7 @@ use Rattle.trace.specs.Cuts.{split}
 use Rattle.trace.specs.Faults.{field_place}
 use Rattle.trace.specs.Fields.{Said, order, keyed, other, field_of, has_name, order_of}
 use Rattle.trace.specs.Laws.{at, error_of, field_fault, fault_behind, NoFault, FirstFault, no_order, behind_order, FaultsAreFirst}
-use Rattle.trace.specs.Lines.{numbered, of_field, value_at, known, order_at, then, keys_of, read_values, call_of, read_call, of_line, first_said, without_first, read_line}
+use Rattle.trace.specs.Lines.{numbered, of_field, value_at, known, order_at, then, keys_of, read_values, call_of, read_call, of_line, first_said, without_first}
 use Rattle.trace.specs.Numbers.{read_number}
 
 module _ {A E : Type 0} where

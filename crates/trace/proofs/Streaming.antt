@@ -1,11 +1,10 @@
 -- A trace that comes in chunks: what is held of a line, and that the cuts between the chunks do not matter.
-use Rattle.std.proofs.Common.{◌≡◌, ℕ, zero, suc, ◌+◌, ◌-◌, ◌<◌, ◌≤◌, min, Bool, true, false, cond, eqb, ltb, List, [], ◌∷◌, ◌++◌, length, take, drop, Some, None, Err, Option, Result, sym, refl, ap, ◌∙◌, ⊎_elim, arith}
-use native.Mathlib.Nat.{min-eq_left, min-eq_right, min-le_left, min-le_right}
+use Rattle.std.proofs.Common.{◌≡◌, ℕ, zero, suc, ◌+◌, ◌-◌, ◌<◌, ◌≤◌, min, cond, List, [], ◌∷◌, ◌++◌, length, take, drop, Some, Err, sym, refl, ap, ◌∙◌, ⊎_elim, arith}
+use native.Mathlib.Nat.{min-eq_left, min-eq_right, min-le_left}
 use borrow.Rule.Slice.PartMut.{put_mid}
-use Rattle.std.proofs.lemmas.List.{append_assoc, append-nil, length-append, length-take, length-take-le, take_all, take_at, take-append-le}
-use Rattle.std.proofs.lemmas.Bool.{cases_lt, lt-ltb, le-ltb}
+use Rattle.std.proofs.lemmas.List.{append_assoc, length-append, length-take-le, take_all, take_at}
+use Rattle.std.proofs.lemmas.Bool.{cases_lt, lt-ltb}
 use Rattle.trace.specs.declared.fault.LineFault.TheVariants.{TooLong}
-use Rattle.trace.specs.declared.reading.Reading.{Reading}
 use Rattle.trace.specs.Cuts.{split}
 use Rattle.trace.specs.Lines.{read_line, of_line, read_call}
 use Rattle.trace.specs.Streams.{kept, held_reading}

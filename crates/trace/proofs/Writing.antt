@@ -1,8 +1,8 @@
 -- Writing text: one piece after another, and a number from its last digit on.
-use Rattle.std.proofs.Common.{◌≡◌, ℕ, zero, suc, ◌+◌, ◌-◌, ◌*◌, ◌/◌, ◌%◌, ◌^◌, ◌<◌, ◌≤◌, List, [], ◌∷◌, ◌++◌, length, take, drop, set, decimal, sym, refl, ap, ◌∙◌, mod-eq_of_lt, mul_comm, div-lt_iff_lt-mul, pow-suc, zero-add, div-one, arith}
+use Rattle.std.proofs.Common.{◌≡◌, ℕ, zero, suc, ◌+◌, ◌-◌, ◌*◌, ◌/◌, ◌%◌, ◌^◌, ◌<◌, ◌≤◌, List, [], ◌∷◌, ◌++◌, length, take, drop, set, decimal, sym, ap, ◌∙◌, mod-eq_of_lt, mul_comm, div-lt_iff_lt-mul, pow-suc, zero-add, div-one, arith}
 use native.Mathlib.Nat.{one-le-pow, div-div-eq-div-mul}
-use borrow.Rule.Slice.PartMut.{put_mid, post_of}
-use Rattle.std.proofs.lemmas.List.{append_assoc, append-nil, length-append, length-take-le, length-drop, take_at, take-set-le, take-append-drop, drop_at, drop-drop, drop-set, length_push}
+use borrow.Rule.Slice.PartMut.{put_mid}
+use Rattle.std.proofs.lemmas.List.{append_assoc, length-append, length-take-le, length-drop, take_at, take-set-le, take-append-drop, drop_at, drop-drop, drop-set, length_push}
 use Rattle.std.proofs.lemmas.Fmt.{decimal_digit, decimal_step, length-decimal-le}
 use Rattle.trace.proofs.OneText.{decimal_one}
 use Rattle.trace.specs.Texts.{put_at, Wrote}

@@ -1,5 +1,5 @@
 -- What a reader of the format may rely on, above the definitions of numbers, fields and lines.
-use Rattle.std.specs.Prelude.{◌≡◌, ℕ, zero, suc, ◌+◌, ◌^◌, ◌<◌, ◌≤◌, ◌⊎◌, List, [], ◌∷◌, length, Some, None, Ok, Err, decimal, Option, Result, ◌≢◌}
+use Rattle.std.specs.Prelude.{◌≡◌, ℕ, zero, suc, ◌+◌, ◌^◌, ◌<◌, List, [], ◌∷◌, Some, None, Ok, Err, decimal, Option, Result, ◌≢◌}
 use Rattle.std.specs.Option.{option_map}
 use Rattle.std.specs.List.{AllByRecursion as All}
 use Rattle.calls.specs.declared.call.Call.{Call}
@@ -11,7 +11,7 @@ use Rattle.trace.specs.declared.field.Key.{Key}
 use Rattle.trace.specs.declared.field.Order.{Order}
 use Rattle.trace.specs.Cuts.{split}
 use Rattle.trace.specs.Faults.{field_place}
-use Rattle.trace.specs.Fields.{Said, field_of}
+use Rattle.trace.specs.Fields.{field_of}
 use Rattle.trace.specs.Lines.{order_at, value_at, keys_of, first_said, without_first, read_line}
 use Rattle.trace.specs.Numbers.{read_number}
 use Rattle.trace.specs.Texts.{join, call_text}

@@ -1,8 +1,6 @@
 -- A trace as lines, and a trace that comes in chunks.
-use Rattle.std.specs.Prelude.{◌≡◌, ℕ, ◌+◌, min, cond, List, [], ◌∷◌, ◌++◌, take, Some, None, Option, Result}
+use Rattle.std.specs.Prelude.{◌≡◌, ℕ, ◌+◌, min, List, [], ◌∷◌, ◌++◌, take, Some, None, Option}
 use Rattle.std.specs.List.{flat_map}
-use Rattle.calls.specs.declared.call.Call.{Call}
-use Rattle.trace.specs.declared.fault.LineFault.{LineFault}
 use Rattle.trace.specs.declared.reading.Reading.{Reading}
 use Rattle.trace.specs.Cuts.{split_once, split}
 use Rattle.trace.specs.Lines.{read_line}

@@ -1,4 +1,6 @@
 // Reading a trace: octets in, calls and faults out.
+#![tactic(auto)]
+
 pub mod cut;
 pub mod fault;
 pub mod field;

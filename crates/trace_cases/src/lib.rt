@@ -1,4 +1,5 @@
 // Lines of a trace and what each is read as, worked out by hand from the format's rules.
+#![tactic(auto)]
 
 #[cfg(test)]
 mod tests {

@@ -1,4 +1,6 @@
 // Makes one list of calls on the self-clocked line over three ready lines, and prints what is answered and whether all three answer it.
+#![tactic(auto)]
+
 use calls::call::{Answer, Call};
 use calls::refusal::Refusal;
 use ready::heap::Heap;

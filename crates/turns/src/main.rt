@@ -1,6 +1,8 @@
 // turns: what a line does while it is busy, for counting what that costs. Its arguments are `heap` or `scan`, a number of sessions,
 // a number of packets that wait in each, and a number of turns. In a turn the packet in service is finished, the next one is started,
 // and a packet enters in its session, so that as many wait as before. It prints what was sent.
+#![tactic(auto)]
+
 use anyhow::Context;
 use calls::call::Service;
 use calls::refusal::Refusal;

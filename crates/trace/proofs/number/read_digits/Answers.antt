@@ -1,10 +1,7 @@
-use Rattle.std.proofs.Common.{◌≡◌, ◌+◌, ◌-◌, ◌*◌, true, false, cond, get_or, drop, Ok, Err, sym, ap, ◌∙◌, arith, rules}
+use Rattle.std.proofs.Common.{◌+◌, ◌-◌, ◌*◌, true, get_or, drop, sym, ap, ◌∙◌, arith}
 use native.Mathlib.Nat.{min-le_right}
-use Rattle.trace.specs.declared.number.NumberFault.TheVariants.{TooLarge}
-use Rattle.trace.specs.Numbers.{in_range, read_digits}
 use Rattle.trace.proofs.Digits.{read_after, read_first, read_stray, read_step, held}
 use Rattle.std.proofs.lemmas.List.{at_drop_all}
-use Rattle.std.proofs.lemmas.Bool.{lt-ltb, le-ltb}
 use Rattle.trace.proofs.number.read_digits.Goals as goal
 
 pub returns-then-not-is_digit-2 : goal.returns-then-not-is_digit-2

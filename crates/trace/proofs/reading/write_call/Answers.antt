@@ -1,4 +1,4 @@
-use Rattle.std.proofs.Common.{◌++◌, codes, decimal, sym, ap, ◌∙◌, arith}
+use Rattle.std.proofs.Common.{sym, ap, ◌∙◌, arith}
 use Rattle.trace.specs.Texts.{call_text}
 use Rattle.trace.proofs.ReadBack.{open_text, enter_text}
 use Rattle.trace.proofs.Writing.{wrote_both, wrote_as}

@@ -1,4 +1,4 @@
-use Rattle.std.proofs.Common.{◌/◌, ◌≤◌, arith}
+use Rattle.std.proofs.Common.{arith}
 use Rattle.trace.proofs.OneText.{decimal_one}
 use Rattle.trace.proofs.Writing.{decimal_longer, decimal_at_most}
 use Rattle.trace.proofs.text.decimal_len.Goals as goal

@@ -1,4 +1,3 @@
-use Rattle.std.proofs.Common.{rules}
 use Rattle.self_clocked.specs.Calls.{fresh_sound}
 use Rattle.self_clocked.specs.States.{state}
 use Rattle.listing.specs.Resting.{heap_tags}

@@ -1,4 +1,4 @@
-use Rattle.std.proofs.Common.{[], sym, refl, arith}
+use Rattle.std.proofs.Common.{[], refl, arith}
 use Rattle.self_clocked.specs.States.{state}
 use Rattle.trace.specs.Streams.{lines_of, next_at}
 use Rattle.listing.proofs.Rows.{Listed, lines_more, lines_none, lines_one, listed_none, listed_room, listed_more, listed_all, called_all}

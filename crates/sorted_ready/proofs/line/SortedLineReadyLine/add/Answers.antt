@@ -31,6 +31,6 @@ invariant_of-self c =
       counted = omega (arith, count_added line.tags tag place within free);
       once =
           once_same (es ++ (tag, c.args.session) ∷ []) (take (line.len + 1) c.insert.new.entries) (set line.tags place (Some tag)) c.insert.ensures.same
-                  (subst (λ (s : ℕ). EachOnce (es ++ (tag, s) ∷ []) (set line.tags place (Some tag))) at.0 one_more);
+          (subst (λ (s : ℕ). EachOnce (es ++ (tag, s) ∷ []) (set line.tags place (Some tag))) at.0 one_more);
       falling = c.insert.ensures.falling line.falling;
     }

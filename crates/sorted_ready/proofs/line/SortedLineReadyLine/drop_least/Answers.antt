@@ -2,7 +2,7 @@ use Rattle.std.proofs.Common.{◌≤◌, length, None, ◌∙◌, arith, rules}
 use Rattle.std.proofs.lemmas.List.{length-set}
 use Rattle.ready.specs.Leasts.{tag_within}
 use Rattle.ready.specs.Counts.{count_dropped}
-use Rattle.sorted_ready.proofs.Falls.{last_answer, some, tag_of_last, shorter_once, shorter_falling}
+use Rattle.sorted_ready.proofs.Falls.{last_answer, tag_of_last, shorter_once, shorter_falling}
 use Rattle.sorted_ready.proofs.line.SortedLineReadyLine.drop_least.Goals as goal
 
 pub returns-in_err-tag : goal.returns-in_err-tag

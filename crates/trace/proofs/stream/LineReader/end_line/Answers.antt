@@ -1,4 +1,4 @@
-use Rattle.std.proofs.Common.{◌≡◌, ◌++◌, take, sym, ap, ◌∙◌}
+use Rattle.std.proofs.Common.{◌++◌, take, sym, ap, ◌∙◌}
 use Rattle.trace.specs.Lines.{read_line}
 use Rattle.trace.specs.Streams.{kept}
 use Rattle.trace.proofs.Streaming.{kept_reads}
