@@ -1,5 +1,5 @@
 // Runs one list of calls on four new lines and prints what each answers, side by side: self-clocked over the heap, over the scan,
-// first come, and self-clocked under two caps. Then it fills a line, lets a session come back after a pause, and looks ahead.
+// first come, and self-clocked under two caps. Then it fills a line, and lets a session come back after a pause.
 #![tactic(auto)]
 
 use calls::call::{Answer, Call};
@@ -9,7 +9,6 @@ use discipline::discipline::Discipline;
 use discipline::run::apply;
 use first_come::line::FirstCome;
 use ready::heap::Heap;
-use ready::line::ReadyLine;
 use ready::scan::Scan;
 use self_clocked::line::SelfClocked;
 use std::io;
@@ -143,38 +142,6 @@ fn come_back<D: Discipline>(out: &mut impl Write, name: &[u8], line: &mut D) -> 
     Ok(())
 }
 
-// What a preview tells while a packet is in service, and then the packets that start: the same tickets, with ties between sessions.
-fn look_ahead<R: ReadyLine + Drop>(
-    out: &mut impl Write,
-    name: &[u8],
-    line: &mut SelfClocked<R>,
-) -> io::Result<()> {
-    for session in 0..4 {
-        apply(line, open(3 - session, 1 + session % 2, 1000));
-    }
-    for ticket in 0..12 {
-        apply(
-            line,
-            enter(ticket % 4, 100 + 100 * (ticket % 2), 30 + ticket),
-        );
-    }
-    apply(line, Call::Start);
-    let mut tickets = [0; 256];
-    let mut scratch = [1; 256];
-    if let Ok(count) = line.preview(&mut tickets, &mut scratch) {
-        for ticket in &tickets[0..count] {
-            out.write_all(name)?;
-            writeln!(out, "preview ticket={ticket}")?;
-        }
-    }
-    for at in 1..12 {
-        apply(line, Call::Finish);
-        let started = apply(line, Call::Start);
-        print_answer(out, name, at, Call::Start, started)?;
-    }
-    Ok(())
-}
-
 fn compare(out: &mut impl Write) -> Result<io::Result<()>, Refusal> {
     let inner = CapNumber::admit(3)?;
     let outer = CapNumber::admit(2)?;
@@ -191,7 +158,5 @@ fn main(rt: HostRuntime) -> io::Result<()> {
     fill(&mut out, b"first come ", &mut FirstCome::new())?;
     come_back(&mut out, b"heap       ", &mut SelfClocked::new(Heap::new()))?;
     come_back(&mut out, b"first come ", &mut FirstCome::new())?;
-    look_ahead(&mut out, b"heap       ", &mut SelfClocked::new(Heap::new()))?;
-    look_ahead(&mut out, b"scan       ", &mut SelfClocked::new(Scan::new()))?;
     out.flush()
 }

@@ -57,15 +57,17 @@ one_first : (packets : List Packet) → 0 < length packets → (p : Packet) × (
 one_first [] some = let no : ⊥ = omega arith in absurd no
 one_first (p ∷ ps) some = (p, refl)
 
--- the next packet to start: it is the first of its session, and at most every first packet
+-- the next packet to start: it is the first of its session, and no first packet has a smaller mark
 pub record Next (m : Meaning) : Type 0 where
   pub service : Service
   pub is : next m ≡ Some service
-  pub below : service.session < 64
   pub first : waiting_in m service.session ≡ service.packet ∷ after_first (waiting_in m service.session)
+  pub smallest : (s : ℕ) (q : Packet) (qs : List Packet) → s < 64 → waiting_in m s ≡ q ∷ qs → service.packet.mark ≤ q.mark
+  -- and by mark and session it is at most every first packet
+  pub below : service.session < 64
   pub least : (s : ℕ) (q : Packet) (qs : List Packet) → s < 64 → waiting_in m s ≡ q ∷ qs → AtMost (service.packet.mark, service.session) (q.mark, s)
 
-pub no_larger : (a b : Entry) → AtMost a b → a.0 ≤ b.0
+no_larger : (a b : Entry) → AtMost a b → a.0 ≤ b.0
 no_larger a b le = grind (arith, nat_tests)
 
 pub next_of_some : (m : Meaning) → 0 < all_waiting m → Next m
@@ -87,6 +89,9 @@ next_of_some m some = go (least_of (first_marks m)) refl
           below = first.session;
           is = next_is m entry first.packet (after_first (waiting_in m entry.1)) is first.first;
           first = first.first;
+          smallest = λ s q qs low has.
+              let no_less = no_larger entry (q.mark, s) (least.1 s q.mark (has_tag s q qs low has)) in
+              omega (arith, first.mark);
           least = λ s q qs low has.
               subst (λ (t : ℕ). AtMost (t, entry.1) (q.mark, s)) (sym first.mark) (least.1 s q.mark (has_tag s q qs low has));
         }
@@ -138,12 +143,7 @@ module _ (x : Clocked) (waits-below : (s : ℕ) (q : Packet) (qs : List Packet) 
   accepted_marks Start none =
       let n = next_to_start x none in
       subst (λ (o : Option Service). Marks x (started_at x o) Start (started_with o)) (sym n.is)
-      (marks.starts (record {
-        smallest = λ s q qs has.
-            no_larger (n.service.packet.mark, n.service.session) (q.mark, s) (n.least s q qs (waits-below s q qs has) has);
-        clock = refl;
-        last = refl;
-      }))
+      (marks.starts (record { smallest = λ s q qs has. n.smallest s q qs (waits-below s q qs has) has; clock = refl; last = refl }))
   accepted_marks Finish none =
       let n = in_service_to_finish x none in
       subst (λ (o : Option Service). Marks x (finished_at x o) Finish (finished_with o)) (sym n.1) (marks.finishes (record { clock = refl; last = refl }))
