@@ -1,6 +1,6 @@
 -- The order in which waiting packets start is that of their marks and then of their sessions, and has each of them once.
 use Rattle.std.proofs.Common.{◌≡◌, ℕ, zero, suc, ◌≤◌, cond, ◌⊎◌, List, [], ◌∷◌, ◌++◌, length, None, sym, refl, ap, ◌∙◌, subst, inl, inr, arith}
-use Rattle.std.specs.List.{AllByRecursion as All}
+use Rattle.std.specs.List.{AllByRecursion}
 use Rattle.std.proofs.lemmas.Bool.{cases_eq, eq-eqb, ne_eqb}
 use Rattle.std.proofs.lemmas.Bool.Decides.{nat_tests}
 use Rattle.calls.specs.Strides.{stride}
@@ -41,9 +41,9 @@ turn x n is =
 -- ---- what holds of every waiting packet holds of every packet of the order
 
 Waits : (ℕ → Packet → Type 0) → Meaning → Type 0
-Waits P m = (s : ℕ) → All (P s) (waiting_in m s)
+Waits P m = (s : ℕ) → AllByRecursion (P s) (waiting_in m s)
 
-all_rest : (P : Packet → Type 0) (ps : List Packet) → All P ps → All P (after_first ps)
+all_rest : (P : Packet → Type 0) (ps : List Packet) → AllByRecursion P ps → AllByRecursion P (after_first ps)
 all_rest P [] all = all
 all_rest P (p ∷ ps) all = all.1
 
@@ -53,11 +53,11 @@ module _ (P : ℕ → Packet → Type 0) where
   unfolding Waits
   waits_started m y n all here there s = go (cases_eq s n)
     where
-      go : (s ≡ n) ⊎ (s ≡ n → ⊥) → All (P s) (waiting_in y s)
+      go : (s ≡ n) ⊎ (s ≡ n → ⊥) → AllByRecursion (P s) (waiting_in y s)
       go (inl e) =
-          subst (λ (ps : List Packet). All (P s) ps) (sym (ap (waiting_in y) e ∙ here ∙ ap (λ k. after_first (waiting_in m k)) (sym e)))
+          subst (λ (ps : List Packet). AllByRecursion (P s) ps) (sym (ap (waiting_in y) e ∙ here ∙ ap (λ k. after_first (waiting_in m k)) (sym e)))
           (all_rest (P s) (waiting_in m s) (all s))
-      go (inr ne) = subst (λ (ps : List Packet). All (P s) ps) (sym (there s ne)) (all s)
+      go (inr ne) = subst (λ (ps : List Packet). AllByRecursion (P s) ps) (sym (there s ne)) (all s)
 
   waits_left : (y : Clocked) (b : Begins y) → Waits P y.meaning → Waits P (after y Start).meaning
   waits_left y b all =
@@ -65,22 +65,22 @@ module _ (P : ℕ → Packet → Type 0) where
       subst (Waits P) (sym b.leaves)
       (waits_started y.meaning _ v.session all (start_waiting_here y.meaning v.session v.packet) (start_waiting_there y.meaning v.session v.packet))
 
-  order_all : (n : ℕ) (x : Clocked) → all_waiting x.meaning ≡ n → Waits P x.meaning → All (λ v. P v.session v.packet) (start_order x)
+  order_all : (n : ℕ) (x : Clocked) → all_waiting x.meaning ≡ n → Waits P x.meaning → AllByRecursion (λ v. P v.session v.packet) (start_order x)
   unfolding Waits
-  order_all zero x is all = subst (All (λ v. P v.session v.packet)) (sym (order_none x is)) tt
+  order_all zero x is all = subst (AllByRecursion (λ v. P v.session v.packet)) (sym (order_none x is)) tt
   order_all (suc n) x is all =
       let t = turn x n is in
       let y = after x Finish in
       let v = t.begun.next_is.service in
-      let at : All (P v.session) (v.packet ∷ after_first (waiting_in y.meaning v.session)) =
-      subst (λ (ps : List Packet). All (P v.session) ps) (sym ((finish_rests x).waiting v.session) ∙ t.begun.next_is.first) (all v.session) in
-      let waits : Waits P y.meaning = λ s. subst (λ (ps : List Packet). All (P s) ps) (sym ((finish_rests x).waiting s)) (all s) in
+      let at : AllByRecursion (P v.session) (v.packet ∷ after_first (waiting_in y.meaning v.session)) =
+      subst (λ (ps : List Packet). AllByRecursion (P v.session) ps) (sym ((finish_rests x).waiting v.session) ∙ t.begun.next_is.first) (all v.session) in
+      let waits : Waits P y.meaning = λ s. subst (λ (ps : List Packet). AllByRecursion (P s) ps) (sym ((finish_rests x).waiting s)) (all s) in
       let z : Waits P (after y Start).meaning = waits_left y t.begun waits in
-      subst (All (λ v. P v.session v.packet)) (sym t.order) (at.0, order_all n (after y Start) t.left z)
+      subst (AllByRecursion (λ v. P v.session v.packet)) (sym t.order) (at.0, order_all n (after y Start) t.left z)
 
 -- ---- the marks of a session rise
 
-chain_above : (g m b : ℕ) (ps : List Packet) (l low : ℕ) → low ≤ b → Chained g m b ps l → All (λ p. low ≤ p.mark) ps
+chain_above : (g m b : ℕ) (ps : List Packet) (l low : ℕ) → low ≤ b → Chained g m b ps l → AllByRecursion (λ p. low ≤ p.mark) ps
 chain_above g m b [] l low le c = tt
 chain_above g m b (p ∷ ps) l low le c = let up : low ≤ p.mark = omega arith in (up, chain_above g m p.mark ps l low up c.2)
 
@@ -89,17 +89,17 @@ same_session s a b le = grind (arith, nat_tests)
 
 module _ (y : Clocked) (ok : Sound y) (free : y.meaning.in_service ≡ None) (n : Begins y) where
   -- the packet that starts is at most every waiting one
-  least_of_all : (s : ℕ) → All (λ p. AtMost (entry n.next_is.service) (p.mark, s)) (waiting_in y.meaning s)
+  least_of_all : (s : ℕ) → AllByRecursion (λ p. AtMost (entry n.next_is.service) (p.mark, s)) (waiting_in y.meaning s)
   least_of_all s = go (waiting_in y.meaning s) refl
     where
       v : Service
       v = n.next_is.service
 
-      later : (q : Packet) (ps : List Packet) → AtMost (entry v) (q.mark, s) → All (λ p. q.mark ≤ p.mark) ps → All (λ p. AtMost (entry v) (p.mark, s)) ps
+      later : (q : Packet) (ps : List Packet) → AtMost (entry v) (q.mark, s) → AllByRecursion (λ p. q.mark ≤ p.mark) ps → AllByRecursion (λ p. AtMost (entry v) (p.mark, s)) ps
       later q [] most up = tt
       later q (p ∷ ps) most up = (at_most_through (entry v) (q.mark, s) (p.mark, s) most (same_session s q.mark p.mark up.0), later q ps most up.1)
 
-      go : (ps : List Packet) → waiting_in y.meaning s ≡ ps → All (λ p. AtMost (entry v) (p.mark, s)) ps
+      go : (ps : List Packet) → waiting_in y.meaning s ≡ ps → AllByRecursion (λ p. AtMost (entry v) (p.mark, s)) ps
       go [] is = tt
       go (q ∷ qs) is =
           let pending : (view s y).pending ≡ q ∷ qs = ap (λ o. served_of s o ++ waiting_in y.meaning s) free ∙ is in
@@ -152,7 +152,7 @@ ordered (suc n) x ok is =
     let z-ok : Sound z = exact_keeps y z Start (answer_to y Start) y-ok (record { answer = refl; after = refl }) in
     let rest = ordered n z z-ok t.left in
     let e = entry t.begun.next_is.service in
-    let waits : (s : ℕ) → All (λ p. AtMost e (p.mark, s)) (waiting_in y.meaning s) = least_of_all y y-ok (finish_rests x).free t.begun in
+    let waits : (s : ℕ) → AllByRecursion (λ p. AtMost e (p.mark, s)) (waiting_in y.meaning s) = least_of_all y y-ok (finish_rests x).free t.begun in
     record {
       each = λ s. ap (of_session s) t.order ∙ one_of_session x y s t.begun (finish_rests x).waiting (start_order z) (rest.each s);
       count = omega (arith, ap length t.order, rest.count, t.left, is);

@@ -1,6 +1,6 @@
 -- The order in which the waiting packets start if only start and finish come from now on.
 use Rattle.std.specs.Prelude.{◌≡◌, ℕ, zero, suc, ◌&&◌, List, [], ◌∷◌, ◌++◌, map, length, drop, replicate, None, Option, Result, nat_le}
-use Rattle.std.specs.List.{AllByRecursion as All}
+use Rattle.std.specs.List.{AllByRecursion}
 use Rattle.calls.specs.declared.call.Packet.{Packet}
 use Rattle.calls.specs.declared.call.Service.{Service}
 use Rattle.calls.specs.declared.call.Call.{Call}
@@ -75,7 +75,7 @@ StartOrFinish Finish = Unit {0}
 -- whatever starts and finishes come, what they start is the front of the order, and behind it is the order of what they leave
 abbrev pub StartsFollowTheOrder : Type 0
 StartsFollowTheOrder =
-    (x : Clocked) (calls : List Call) → All StartOrFinish calls →
+    (x : Clocked) (calls : List Call) → AllByRecursion StartOrFinish calls →
     start_order x ≡ started_in (answers_to x calls) ++ start_order (after_calls x calls)
 
 -- the packets of session s among these
@@ -89,7 +89,7 @@ entry service = (service.packet.mark, service.session)
 -- each comes before all that follow it, by its mark and then by its session
 abbrev pub ByMarkAndSession : List Service → Type 0
 ByMarkAndSession [] = Unit {0}
-ByMarkAndSession (service ∷ services) = All (λ later. AtMost (entry service) (entry later)) services × ByMarkAndSession services
+ByMarkAndSession (service ∷ services) = AllByRecursion (λ later. AtMost (entry service) (entry later)) services × ByMarkAndSession services
 
 pub record Ordered (x : Clocked) : Type 0 where
   -- each waiting packet stands in it once, those of a session in their order

@@ -3,7 +3,7 @@ use Rattle.std.proofs.Common.{◌≡◌, ℕ, zero, suc, ◌+◌, ◌-◌, ◌<�
 use native.Mathlib.Nat.{sub-zero}
 use Rattle.std.proofs.lemmas.List.{length-drop, take_rest}
 use Rattle.std.proofs.lemmas.Bool.{cond_both, eqb-true, eqb-false}
-use Rattle.std.specs.List.{AllByRecursion as All}
+use Rattle.std.specs.List.{AllByRecursion}
 use Rattle.std.specs.Option.{option_map}
 use Rattle.trace.specs.Cuts.{split_once, split, onto_first}
 use Rattle.trace.specs.Laws.{PartsAreBetweenSeparators}
@@ -64,7 +64,7 @@ split_last s xs e = split_by_cut s xs ∙ ap (parts_from s xs) (sym e)
 -- ---- splitting and joining
 
 abbrev Lacks : ℕ → List ℕ → Type 0
-Lacks s part = All (λ c. c ≡ s → ⊥) part
+Lacks s part = AllByRecursion (λ c. c ≡ s → ⊥) part
 
 join_empty : (s : ℕ) (parts : List (List ℕ)) → 0 < length parts → join s ([] ∷ parts) ≡ s ∷ join s parts
 join_empty s [] some = let no : ⊥ = omega arith in absurd no
@@ -91,14 +91,14 @@ join_split s (c ∷ cs) =
     (λ e. join_empty s (split s cs) (split_some s cs) ∙ (λ i. sym (eqb-true c s e) i ∷ join_split s cs i))
     (λ e. join_onto s c (split s cs) ∙ ap (λ r. c ∷ r) (join_split s cs))
 
-apart_onto : (s c : ℕ) (parts : List (List ℕ)) → (c ≡ s → ⊥) → All (Lacks s) parts → All (Lacks s) (onto_first c parts)
+apart_onto : (s c : ℕ) (parts : List (List ℕ)) → (c ≡ s → ⊥) → AllByRecursion (Lacks s) parts → AllByRecursion (Lacks s) (onto_first c parts)
 apart_onto s c [] ne all = ((ne, tt), tt)
 apart_onto s c (part ∷ parts) ne all = ((ne, all.0), all.1)
 
-split_apart : (s : ℕ) (xs : List ℕ) → All (Lacks s) (split s xs)
+split_apart : (s : ℕ) (xs : List ℕ) → AllByRecursion (Lacks s) (split s xs)
 split_apart s [] = (tt, tt)
 split_apart s (c ∷ cs) =
-    cond_both (eqb c s) ([] ∷ split s cs) (onto_first c (split s cs)) (All (Lacks s))
+    cond_both (eqb c s) ([] ∷ split s cs) (onto_first c (split s cs)) (AllByRecursion (Lacks s))
     (λ e. (tt, split_apart s cs))
     (λ e. apart_onto s c (split s cs) (eqb-false c s e) (split_apart s cs))
 
@@ -117,7 +117,7 @@ split_whole s [] lacks = refl
 split_whole s (c ∷ cs) lacks =
     ap (λ b. cond b ([] ∷ split s cs) (onto_first c (split s cs))) (ne_eqb c s lacks.0) ∙ ap (onto_first c) (split_whole s cs lacks.1)
 
-pub split_join : (s : ℕ) (parts : List (List ℕ)) → 0 < length parts → All (Lacks s) parts → split s (join s parts) ≡ parts
+pub split_join : (s : ℕ) (parts : List (List ℕ)) → 0 < length parts → AllByRecursion (Lacks s) parts → split s (join s parts) ≡ parts
 split_join s [] some lacks = let no : ⊥ = omega arith in absurd no
 split_join s (part ∷ []) some lacks = split_whole s part lacks.0
 split_join s (part ∷ next ∷ parts) some lacks =

@@ -4,7 +4,7 @@ use Rattle.std.proofs.lemmas.Fmt.{length-decimal-le, digits_decimal}
 use Rattle.std.proofs.ByRecursion.{All-append}
 use Rattle.std.proofs.lemmas.List.{append_assoc, length-append}
 use Rattle.std.proofs.lemmas.Bool.{le-ltb, and_parts, leb-true, ltb-true}
-use Rattle.std.specs.List.{AllByRecursion as All}
+use Rattle.std.specs.List.{AllByRecursion}
 use Rattle.calls.specs.declared.call.Call.{Call}
 use Rattle.calls.specs.declared.call.Call.TheVariants.{Open, Enter, Start, Finish}
 use Rattle.trace.specs.declared.fault.FieldFault.TheVariants.{Malformed}
@@ -26,7 +26,7 @@ above_space : List ℕ → Bool
 above_space [] = true
 above_space (c ∷ cs) = ltb 32 c && above_space cs
 
-no_space : (cs : List ℕ) → above_space cs ≡ true → All (λ c. c ≡ 32 → ⊥) cs
+no_space : (cs : List ℕ) → above_space cs ≡ true → AllByRecursion (λ c. c ≡ 32 → ⊥) cs
 unfolding above_space
 no_space [] above = tt
 no_space (c ∷ cs) above =
@@ -34,7 +34,7 @@ no_space (c ∷ cs) above =
     let high : 32 < c = ltb-true 32 c both.0 in
     ((λ e. omega arith), no_space cs both.1)
 
-digits_no_space : (ds : List ℕ) → all_digits ds ≡ true → All (λ c. c ≡ 32 → ⊥) ds
+digits_no_space : (ds : List ℕ) → all_digits ds ≡ true → AllByRecursion (λ c. c ≡ 32 → ⊥) ds
 digits_no_space [] d = tt
 digits_no_space (c ∷ cs) d =
     let both = and_parts (is_digit c) (all_digits cs) d in
@@ -57,7 +57,7 @@ named Length = record { said = λ v. refl; itself = refl; plain = refl; short = 
 named Ticket = record { said = λ v. refl; itself = refl; plain = refl; short = omega arith }
 
 module _ (n : ℕ) (small : n < 2 ^ 32) where
-  value_no_space : (key : Key) → All (λ c. c ≡ 32 → ⊥) (value_text key n)
+  value_no_space : (key : Key) → AllByRecursion (λ c. c ≡ 32 → ⊥) (value_text key n)
   value_no_space key =
       All-append (λ c. c ≡ 32 → ⊥) (key_name key) (61 ∷ decimal n) (no_space (key_name key) (named key).plain)
       ((λ e. omega arith), digits_no_space (decimal n) (digits_decimal own n (omega arith)))
@@ -90,7 +90,7 @@ module _ (j k m : Key) (a b c : ℕ) (x : a < 2 ^ 32) (y : b < 2 ^ 32) (z : c < 
       (then (value_reads b y 3 k i) (λ n. then (then (value_reads c z 4 m i) (λ n. then (Ok []) (λ ns. Ok (n ∷ ns)))) (λ ns. Ok (n ∷ ns))))
       (λ ns. Ok (n ∷ ns)))
 
-  three_lack : (word : List ℕ) → above_space word ≡ true → All (λ part. All (λ c. c ≡ 32 → ⊥) part) (word ∷ values)
+  three_lack : (word : List ℕ) → above_space word ≡ true → AllByRecursion (λ part. AllByRecursion (λ c. c ≡ 32 → ⊥) part) (word ∷ values)
   unfolding values
   three_lack word plain = (no_space word plain, (value_no_space a x j, (value_no_space b y k, (value_no_space c z m, tt))))
 
@@ -108,7 +108,7 @@ module _ (j k m : Key) (a b c : ℕ) (x : a < 2 ^ 32) (y : b < 2 ^ 32) (z : c < 
       )
 
 -- a line that is short enough and whose fields say a call
-fits_line : (fields : List (List ℕ)) (call : Call) → 0 < length fields → All (λ part. All (λ c. c ≡ 32 → ⊥) part) fields →
+fits_line : (fields : List (List ℕ)) (call : Call) → 0 < length fields → AllByRecursion (λ part. AllByRecursion (λ c. c ≡ 32 → ⊥) part) fields →
     length (join 32 fields) ≤ 80 → read_call fields ≡ Ok call → read_line (join 32 fields) ≡ Ok call
 fits_line fields call some lack short reads =
     ap (λ b. cond b (Err TooLong) (of_line (read_call (split 32 (join 32 fields))))) (le-ltb 80 (length (join 32 fields)) short)

@@ -1,7 +1,7 @@
 -- What a reader of the format may rely on, above the definitions of numbers, fields and lines.
 use Rattle.std.specs.Prelude.{◌≡◌, ℕ, zero, suc, ◌+◌, ◌^◌, ◌<◌, List, [], ◌∷◌, Some, None, Ok, Err, decimal, Option, Result, ◌≢◌}
 use Rattle.std.specs.Option.{option_map}
-use Rattle.std.specs.List.{AllByRecursion as All}
+use Rattle.std.specs.List.{AllByRecursion}
 use Rattle.calls.specs.declared.call.Call.{Call}
 use Rattle.calls.specs.declared.call.Call.TheVariants.{Open, Enter, Start, Finish}
 use Rattle.trace.specs.declared.fault.FieldFault.{FieldFault}
@@ -25,7 +25,7 @@ pub record NumbersHaveOneText : Type 0 where
 -- splitting and joining undo each other, and no part has a separator in it
 pub record PartsAreBetweenSeparators (s : ℕ) : Type 0 where
   pub joined : (text : List ℕ) → join s (split s text) ≡ text
-  pub apart : (text : List ℕ) → All (λ part. All (λ c. c ≢ s) part) (split s text)
+  pub apart : (text : List ℕ) → AllByRecursion (λ part. AllByRecursion (λ c. c ≢ s) part) (split s text)
 
 -- the element at this place, from 0
 abbrev pub at : {A : Type 0} → List A → ℕ → Option A
