@@ -2,9 +2,9 @@
 A host in C: lists the trace in the file that its argument names, or the one on its standard input,
 and prints the listing. From the root of the repository:
 
-    rt staticlib fairline_host &&
+    (cd crates/fairline_host && rt lib) && mkdir -p target &&
     cc -std=c99 -O2 -Wall -Wextra -Iinclude examples/host.c \
-        target/staticlib/libfairline_host.a -o target/host_c &&
+        crates/fairline_host/out/libfairline_host.a -o target/host_c &&
     target/host_c examples/moving-day.trace
 
 The status is 0 if the trace was listed, 1 if it was refused, and 2 if it could not be read or the

@@ -2,7 +2,7 @@
 //! input, and prints the listing. From the root of the repository:
 //!
 //! ```text
-//! rt staticlib fairline_host && rustc --edition 2024 -O -L target/staticlib -l static=fairline_host examples/host.rs -o target/host_rs && target/host_rs examples/moving-day.trace
+//! (cd crates/fairline_host && rt lib) && mkdir -p target && rustc --edition 2024 -O -L crates/fairline_host/out -l static=fairline_host examples/host.rs -o target/host_rs && target/host_rs examples/moving-day.trace
 //! ```
 //!
 //! The status is 0 if the trace was listed, 1 if it was refused, and 2 if it could not be read or

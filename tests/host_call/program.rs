@@ -4,7 +4,7 @@ use std::fs::{self, File};
 use std::io;
 use std::process::Command;
 
-const PROGRAM: &str = "target/bin/fairline";
+const PROGRAM: &str = "crates/fairline/out/fairline";
 const INPUT: &str = "target/tests/program-input.trace";
 
 /// What the program prints for a trace. It must end with status 0.

@@ -49,7 +49,7 @@ fn earlier(first: Option<Entry>, second: Option<Entry>) -> Option<Entry>
 impl ReadyLine for Scan {
     ghost tags = { λ x. x.tags };
 
-    ghost sessions = { first_of (Prim.search rules, Prim.grind (arith, Self.row.coded.inj)) };
+    ghost sessions = { Prim.search rules };
 
     fn add(&mut self, tag: u64, session: u32) -> Result<(), Refusal> {
         let place = place_of(session)?;

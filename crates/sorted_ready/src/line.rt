@@ -50,7 +50,7 @@ impl SortedLine {
 impl ReadyLine for SortedLine {
     ghost tags = { λ line. line.tags };
 
-    ghost sessions = { first_of (Prim.search rules, Prim.grind (arith, Self.row.coded.inj)) };
+    ghost sessions = { Prim.search rules };
 
     fn add(&mut self, tag: u64, session: u32) -> Result<(), Refusal> {
         let place = place_of(session)?;

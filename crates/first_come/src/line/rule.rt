@@ -77,11 +77,11 @@ impl Discipline for FirstCome {
 
     ghost reach = { λ x. reach_in };
 
-    ghost begins = { first_of (Prim.search rules, Prim.grind (arith, Self.row.coded.inj)) };
+    ghost begins = { Prim.search rules };
 
     ghost empty = { λ x new. ap (λ z. z.meaning) new };
 
-    ghost keeps = { first_of (Prim.search rules, Prim.grind (arith, Self.row.coded.inj)) };
+    ghost keeps = { Prim.search rules };
 
     ghost moves = { λ x y c a ok step. exact_moves x (model_of y) c a step };
 

@@ -30,9 +30,9 @@ impl<R: ReadyLine + Drop> Discipline for SelfClocked<R> {
 
     ghost begins = { λ x new. fresh_sound (R.ReadyLine.tags x.ready) (state x) new };
 
-    ghost empty = { first_of (Prim.search rules, Prim.grind (arith, Self.row.coded.inj)) };
+    ghost empty = { Prim.search rules };
 
-    ghost keeps = { first_of (Prim.search rules, Prim.grind (arith, Self.row.coded.inj)) };
+    ghost keeps = { Prim.search rules };
 
     ghost moves = { λ x y c a ok step. exact_general (state x) (state y) c a step.0 };
 
@@ -107,9 +107,9 @@ impl<R: ReadyLine + Drop> Discipline for SelfClocked<R> {
 impl<R: ReadyLine + Drop> SelfClockedDiscipline for SelfClocked<R> {
     ghost clocked = { λ x. state x };
 
-    ghost clocked_meaning = { first_of (Prim.search rules, Prim.grind (arith, Self.row.coded.inj)) };
+    ghost clocked_meaning = { Prim.search rules };
 
-    ghost clocked_new = { first_of (Prim.search rules, Prim.grind (arith, Self.row.coded.inj)) };
+    ghost clocked_new = { Prim.search rules };
 
     ghost clocked_steps = { λ x y c a ok step. exact_clocked (state x) (waits_below_64 x.sessions) (state y) c a step.0 };
 }
