@@ -127,6 +127,10 @@ wrote_both {x} {y} {z} {a} {b} {at} {middle} {end} within first second =
 pub wrote_as : {x y : List ℕ} {at end : ℕ} (a b : List ℕ) → a ≡ b → Wrote x at a y end → Wrote x at b y end
 wrote_as {x} {y} {at} {end} a b e w = record { octets = w.octets ∙ ap (put_at x at) e; place = w.place ∙ ap (λ t. at + length t) e }
 
+-- the same, with the words found from what was written
+pub wrote_words : {x y a : List ℕ} {at end : ℕ} (b : List ℕ) → Wrote x at a y end → a ≡ b → Wrote x at b y end
+wrote_words {x} {y} {a} {at} {end} b w e = wrote_as a b e w
+
 -- nothing is written
 pub wrote_none : (x : List ℕ) (at : ℕ) → Wrote x at [] x at
 wrote_none x at = record { octets = sym (put_none x at); place = omega arith }
