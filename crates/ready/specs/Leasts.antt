@@ -18,7 +18,7 @@ same_some t u e = cc
 pub tag_within : (xs : Tags) (s t : ℕ) → tag_of xs s ≡ Some t → s < length xs
 tag_within xs s t e = ⊎_elim (λ l. l) (λ p. absurd (none_some t (sym (get_or_past xs s None p) ∙ e))) (cases_lt s (length xs))
 
--- the same as `Is-least`, of the sessions below k
+-- the same as `IsLeast`, of the sessions below k
 abbrev pub LeastBelow : Tags → ℕ → Option Entry → Type 0
 LeastBelow xs k None = (s t : ℕ) → s < k → tag_of xs s ≢ Some t
 LeastBelow xs k (Some e) = (tag_of xs e.1 ≡ Some e.0) × ((s t : ℕ) → s < k → tag_of xs s ≡ Some t → AtMost e (t, s))
@@ -66,7 +66,7 @@ least_rest xs (suc n) k best l h = ⊎_elim
     (λ past. subst (IsLeast xs) (sym (least_all xs k best past)) (below_all xs k best past h))
     (cases_lt k (length xs))
 
--- `least-of` is the least entry
+-- `least_of` is the least entry
 pub least_is_least : (xs : Tags) → IsLeast xs (least_of xs)
 least_is_least xs = least_rest xs (length xs) 0 None (omega arith) (λ s t l o. absurd (omega arith))
 

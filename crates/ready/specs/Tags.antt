@@ -24,7 +24,7 @@ place_answer s = cond (nat_lt s 64) (Ok s) (Err NoSuchSession)
 
 -- a session takes no second entry
 abbrev pub free_answer : Bool → Result (Unit {0}) Refusal
-free_answer has-entry = cond has-entry (Err DuplicateEntry) (Ok tt)
+free_answer has_entry = cond has_entry (Err DuplicateEntry) (Ok tt)
 
 -- what `add` answers: a session above 63 is refused, and then one that has an entry
 abbrev pub add_answer : Tags → ℕ → Result (Unit {0}) Refusal

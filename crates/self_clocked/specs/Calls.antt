@@ -140,14 +140,14 @@ start_due tags rest m mark s none ready is gone =
 pub step_started : (tags rest left : Tags) (x y : Clocked) (mark s : ℕ) (r : Result Service Refusal) → why_start x.meaning ≡ None → tags ≡ first_marks x.meaning →
     Some (mark, s) ≡ least_of tags → Due rest x.meaning mark s → r ≡ taken s (first_of (waiting_in x.meaning s)) →
     y ≡ started_at x (with_first s (waiting_in x.meaning s)) → left ≡ first_marks y.meaning → Stepped left x Start (started r) y
-step_started tags rest left x y mark s r none ready is due answer to now-ready =
+step_started tags rest left x y mark s r none ready is due answer to now_ready =
     let m = x.meaning in
     let chosen : next m ≡ with_first s (waiting_in m s) = ap (first_with m) (sym (is ∙ ap least_of ready)) in
     let at : y ≡ started_at x (next m) = to ∙ ap (started_at x) (sym chosen) in
     let n = next_to_start x none in
     let found : y ≡ started_at x (Some n.service) = at ∙ ap (started_at x) n.is in
     step_accepted left x y Start (started r) none (ap started answer ∙ same_answer (waiting_in m s) ∙ ap started_with (sym chosen)) at
-    (subst (Sound left) (sym found) (sound_started left x n.service (now-ready ∙ ap (λ z. first_marks z.meaning) found)))
+    (subst (Sound left) (sym found) (sound_started left x n.service (now_ready ∙ ap (λ z. first_marks z.meaning) found)))
   where
     same_answer : (ps : List Packet) → started (taken s (first_of ps)) ≡ started_with (with_first s ps)
     same_answer [] = refl
@@ -167,22 +167,22 @@ zeros (suc m) (suc n) = zeros m n
 pub zeros_last : last_in (replicate 64 0) ≡ (λ s. 0)
 zeros_last = λ i s. zeros 64 s i
 
-pub step_finished : (tags : Tags) (x : Clocked) (y : Meaning) (lasts new-lasts : List ℕ) (clock : ℕ) (service : Service) → x.last ≡ last_in lasts →
+pub step_finished : (tags : Tags) (x : Clocked) (y : Meaning) (lasts new_lasts : List ℕ) (clock : ℕ) (service : Service) → x.last ≡ last_in lasts →
     Ok service ≡ finish_answer x.meaning → y ≡ after_served x.meaning (Ok service) → clock ≡ while_waiting y x.clock →
-    new-lasts ≡ cond (all_waiting y == 0) (replicate 64 0) lasts → Sound tags x →
-    Stepped tags x Finish (finished (Ok service)) (record { meaning = y; clock = clock; last = last_in new-lasts })
-step_finished tags x y lasts new-lasts clock service had is to clock-is Lasts-are ok =
+    new_lasts ≡ cond (all_waiting y == 0) (replicate 64 0) lasts → Sound tags x →
+    Stepped tags x Finish (finished (Ok service)) (record { meaning = y; clock = clock; last = last_in new_lasts })
+step_finished tags x y lasts new_lasts clock service had is to clock_is lasts_are ok =
     let m = x.meaning in
     let held : m.in_service ≡ Some service = served_ok m.in_service service is in
     let allowed : refusal_of x Finish ≡ None = ap (λ o. finish_refusal (is_some o)) held in
     let waiting : all_waiting y ≡ all_waiting m = ap all_waiting to ∙ same_all_waiting m (after_finish m service.session service.packet) (finish_waiting m service.session service.packet) in
     let b : nat_eq (all_waiting y) 0 ≡ nat_eq (all_waiting m) 0 = ap (λ n. nat_eq n 0) waiting in
-    let clock-path : clock ≡ while_waiting m x.clock = clock-is ∙ ap (λ t. cond t 0 x.clock) b in
-    let last-path : last_in new-lasts ≡ (λ s. while_waiting m (x.last s)) =
-    ap last_in Lasts-are ∙ emptied (all_waiting y == 0) ∙ (λ i s. cond (b i) 0 (sym had i s))
+    let clock_path : clock ≡ while_waiting m x.clock = clock_is ∙ ap (λ t. cond t 0 x.clock) b in
+    let last_path : last_in new_lasts ≡ (λ s. while_waiting m (x.last s)) =
+    ap last_in lasts_are ∙ emptied (all_waiting y == 0) ∙ (λ i s. cond (b i) 0 (sym had i s))
     in
-    let left : Clocked = record { meaning = y; clock = clock; last = last_in new-lasts } in
-    let at : left ≡ finished_at x (Some service) = λ i. record { meaning = to i; clock = clock-path i; last = last-path i } in
+    let left : Clocked = record { meaning = y; clock = clock; last = last_in new_lasts } in
+    let at : left ≡ finished_at x (Some service) = λ i. record { meaning = to i; clock = clock_path i; last = last_path i } in
     step_accepted tags x left Finish (finished (Ok service)) allowed (ap (λ o. finished_with o) (sym held)) (at ∙ ap (finished_at x) (sym held))
     (subst (Sound tags) (sym at) (sound_finished tags x service ok))
   where

@@ -136,14 +136,14 @@ exact_general x y call a e =
 
 -- ---- the marks
 
-module _ (x : Clocked) (waits-below : (s : ℕ) (q : Packet) (qs : List Packet) → waiting_in x.meaning s ≡ q ∷ qs → s < 64) where
+module _ (x : Clocked) (waits_below : (s : ℕ) (q : Packet) (qs : List Packet) → waiting_in x.meaning s ≡ q ∷ qs → s < 64) where
   accepted_marks : (call : Call) → refusal_of x call ≡ None → Marks x (accepted_after x call) call (accepted_answer x call)
   accepted_marks (Open s weight limit) none = marks.opens (record { clock = refl; last = refl })
   accepted_marks (Enter s length ticket) none = marks.enters (record { mark_is = refl; clock = refl; last = refl })
   accepted_marks Start none =
       let n = next_to_start x none in
       subst (λ (o : Option Service). Marks x (started_at x o) Start (started_with o)) (sym n.is)
-      (marks.starts (record { smallest = λ s q qs has. n.smallest s q qs (waits-below s q qs has) has; clock = refl; last = refl }))
+      (marks.starts (record { smallest = λ s q qs has. n.smallest s q qs (waits_below s q qs has) has; clock = refl; last = refl }))
   accepted_marks Finish none =
       let n = in_service_to_finish x none in
       subst (λ (o : Option Service). Marks x (finished_at x o) Finish (finished_with o)) (sym n.1) (marks.finishes (record { clock = refl; last = refl }))

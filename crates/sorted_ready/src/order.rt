@@ -31,7 +31,7 @@ fn insert_at(entries: &mut [Entry; 64], len: usize, place: usize, new: Entry)
 }
 
 // Puts the new entry in where it belongs among the first `len`.
-pub fn insert(entries: &mut [Entry; 64], len: usize, new: Entry)
+pub(crate) fn insert(entries: &mut [Entry; 64], len: usize, new: Entry)
     requires { len < 64 }
     ensures long { length entries.new ≡ 64 }
     ensures same { SameEntries (take len entries.old ++ new ∷ []) (take (len + 1) entries.new) }

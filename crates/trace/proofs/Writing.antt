@@ -4,7 +4,6 @@ use native.Mathlib.Nat.{one-le-pow, div-div-eq-div-mul}
 use borrow.Rule.Slice.PartMut.{put_mid}
 use Rattle.std.proofs.lemmas.List.{append_assoc, length-append, length-take-le, length-drop, take_at, take-set-le, take-append-drop, drop_at, drop-drop, drop-set, length_push}
 use Rattle.std.proofs.lemmas.Fmt.{decimal_digit, decimal_step, length-decimal-le}
-use Rattle.trace.proofs.OneText.{decimal_one}
 use Rattle.trace.specs.Texts.{put_at, Wrote}
 
 module _ (out : List ℕ) (at : ℕ) (within : at ≤ length out) where
@@ -68,6 +67,9 @@ put_part out at part piece e =
 -- how many digits a number has
 pub decimal_longer : (n : ℕ) → 10 ≤ n → n < 2 ^ 64 → length (decimal n) ≡ length (decimal (n / 10)) + 1
 decimal_longer n ten fits = ap length (decimal_step n ten fits) ∙ length_push (decimal (n / 10)) (48 + n % 10)
+
+pub decimal_one : (n : ℕ) → n < 10 → length (decimal n) ≡ 1
+decimal_one n h = ap length (decimal_digit n h)
 
 -- a number of more than k digits has k more than what is left without its last k
 pub decimal_over : (k n : ℕ) → 10 ^ k ≤ n → n < 2 ^ 64 → length (decimal n) ≡ k + length (decimal (n / 10 ^ k))

@@ -9,6 +9,7 @@ use crate::cut::split_once;
 use crate::line::read_line;
 use crate::reading::Reading;
 use crate::stream::LineReader;
+use crate::text::put;
 
 // The number of the line behind the one with this number. It stays at the largest.
 pub fn next_at(at: u32) -> u32
@@ -33,9 +34,7 @@ impl LineReader {
         ensures { stream_of self.new ≡ after_part (stream_of self.old) part.now }
     {
         let n = part.len().min(81 - self.len);
-        let end = self.len + n;
-        self.held[self.len..end].copy_from_slice(&part[0..n]);
-        self.len = end;
+        self.len = put(&mut self.held, self.len, &part[0..n]);
     }
 
     // Reads the line that ends with this part, and goes on to the next.

@@ -1,6 +1,5 @@
 use Rattle.std.proofs.Common.{sym, arith}
-use Rattle.trace.proofs.OneText.{decimal_one}
-use Rattle.trace.proofs.Writing.{decimal_with}
+use Rattle.trace.proofs.Writing.{decimal_one, decimal_with}
 use Rattle.listing.proofs.text.short_len.Goals as goal
 
 pub returns-then-number-lt10 : goal.returns-then-number-lt10

@@ -1,6 +1,5 @@
 use Rattle.std.proofs.Common.{arith}
-use Rattle.trace.proofs.OneText.{decimal_one}
-use Rattle.trace.proofs.Writing.{decimal_longer, decimal_at_most}
+use Rattle.trace.proofs.Writing.{decimal_longer, decimal_one, decimal_at_most}
 use Rattle.trace.proofs.text.decimal_len.Goals as goal
 
 pub overflow_add-len : goal.overflow_add-len
