@@ -40,12 +40,14 @@ pub enum Call {
     Finish,
 }
 
-// What a line answers. A refused call changes nothing.
+// What a line answers to a call that it accepts.
 #[derive(Clone, Copy, PartialEq, Eq, Debug)]
-pub enum Answer {
+pub enum Reply {
     Opened,
     Entered { mark: u64 },
-    Started { session: u32, packet: Packet },
-    Finished { session: u32, packet: Packet },
-    Refused(Refusal),
+    Started(Service),
+    Finished(Service),
 }
+
+// What a line answers. A refused call changes nothing.
+pub type Answer = Result<Reply, Refusal>;

@@ -2,7 +2,7 @@
 ghost use Rattle.std.specs.Prelude.{◌≡◌, ◌<◌, ◌≤◌};
 ghost use Rattle.calls.specs.Strides.{charge, stride, stride_answer, ProductOfWeightAndStride};
 
-use crate::refusal::Refusal;
+use crate::refusal::{Refusal, check_within};
 
 // 720,720 divided by the weights 1 to 16.
 const STRIDES: [u32; 16] = [
@@ -21,9 +21,7 @@ fn entry(weight: u32) -> u32
 pub fn stride(weight: u32) -> Result<u32, Refusal>
     ensures { result ≡ stride_answer weight }
 {
-    if weight == 0 || weight > 16 {
-        return Err(Refusal::BadWeight);
-    }
+    check_within(weight, 16, Refusal::BadWeight)?;
     Ok(entry(weight))
 }
 
@@ -38,5 +36,5 @@ pub fn scale() -> u32
 pub fn charge(length: u32) -> u64
     ensures { result ≡ charge length }
 {
-    length as u64
+    u64::from(length)
 }

@@ -98,7 +98,7 @@ fn side_by_side(out: &mut impl Write, inner: CapNumber, outer: CapNumber) -> io:
 
 // 256 packets wait; one more is refused by 7; a start lets one more in, and again one is refused.
 fn fill<D: Discipline>(out: &mut impl Write, name: &[u8], line: &mut D) -> io::Result<()> {
-    apply(line, open(5, 3, 65535));
+    let _ = apply(line, open(5, 3, 65535));
     for ticket in 1..258 {
         let call = enter(5, 1, ticket);
         let answer = apply(line, call);
@@ -119,15 +119,15 @@ fn fill<D: Discipline>(out: &mut impl Write, name: &[u8], line: &mut D) -> io::R
 // While session 1 is away, session 0 sends ten packets. Coming back, session 1 is marked from the clock and not from its own last
 // mark, so it gets no service for the time that it was away.
 fn come_back<D: Discipline>(out: &mut impl Write, name: &[u8], line: &mut D) -> io::Result<()> {
-    apply(line, open(0, 1, 1000));
-    apply(line, open(1, 1, 1000));
-    apply(line, enter(1, 10, 0));
+    let _ = apply(line, open(0, 1, 1000));
+    let _ = apply(line, open(1, 1, 1000));
+    let _ = apply(line, enter(1, 10, 0));
     for ticket in 1..12 {
-        apply(line, enter(0, 1000, ticket));
+        let _ = apply(line, enter(0, 1000, ticket));
     }
     for _ in 0..10 {
-        apply(line, Call::Start);
-        apply(line, Call::Finish);
+        let _ = apply(line, Call::Start);
+        let _ = apply(line, Call::Finish);
     }
     for ticket in 20..23 {
         let call = enter(1, 1000, ticket);
@@ -137,14 +137,14 @@ fn come_back<D: Discipline>(out: &mut impl Write, name: &[u8], line: &mut D) -> 
     for at in 23..28 {
         let started = apply(line, Call::Start);
         print_answer(out, name, at, Call::Start, started)?;
-        apply(line, Call::Finish);
+        let _ = apply(line, Call::Finish);
     }
     Ok(())
 }
 
 fn compare(out: &mut impl Write) -> Result<io::Result<()>, Refusal> {
-    let inner = CapNumber::admit(3)?;
-    let outer = CapNumber::admit(2)?;
+    let inner = CapNumber::try_from(3)?;
+    let outer = CapNumber::try_from(2)?;
     Ok(side_by_side(out, inner, outer))
 }
 

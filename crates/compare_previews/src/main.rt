@@ -23,7 +23,7 @@ fn print_answer(out: &mut impl Write, name: &[u8], at: u32, answer: Answer) -> i
 // Opens four sessions, of the weights 1 and 2, enters twelve packets and starts one.
 fn fill<R: ReadyLine + Drop>(line: &mut SelfClocked<R>) {
     for session in 0..4 {
-        apply(
+        let _ = apply(
             line,
             Call::Open {
                 session: 3 - session,
@@ -33,7 +33,7 @@ fn fill<R: ReadyLine + Drop>(line: &mut SelfClocked<R>) {
         );
     }
     for ticket in 0..12 {
-        apply(
+        let _ = apply(
             line,
             Call::Enter {
                 session: ticket % 4,
@@ -42,7 +42,7 @@ fn fill<R: ReadyLine + Drop>(line: &mut SelfClocked<R>) {
             },
         );
     }
-    apply(line, Call::Start);
+    let _ = apply(line, Call::Start);
 }
 
 fn look_ahead<R: ReadyLine + Drop>(
@@ -60,7 +60,7 @@ fn look_ahead<R: ReadyLine + Drop>(
         }
     }
     for at in 1..12 {
-        apply(line, Call::Finish);
+        let _ = apply(line, Call::Finish);
         let started = apply(line, Call::Start);
         print_answer(out, name, at, started)?;
     }

@@ -1,22 +1,22 @@
 -- The answers of the four calls, as a history has them.
 use Rattle.std.specs.Prelude.{ℕ, Ok, Err, Result}
-use Rattle.calls.specs.declared.call.Answer.{Answer}
-use Rattle.calls.specs.declared.call.Answer.TheVariants.{Opened, Entered, Started, Finished, Refused}
+use Rattle.calls.specs.Answers.{Answer}
+use Rattle.calls.specs.declared.call.Reply.TheVariants.{Opened, Entered, Started, Finished}
 use Rattle.calls.specs.declared.call.Service.{Service}
 use Rattle.calls.specs.declared.refusal.Refusal.{Refusal}
 
 abbrev pub opened : Result (Unit {0}) Refusal → Answer
-opened (Ok done) = Opened
-opened (Err reason) = Refused reason
+opened (Ok done) = Ok Opened
+opened (Err reason) = Err reason
 
 abbrev pub entered : Result ℕ Refusal → Answer
-entered (Ok mark) = Entered mark
-entered (Err reason) = Refused reason
+entered (Ok mark) = Ok (Entered mark)
+entered (Err reason) = Err reason
 
 abbrev pub started : Result Service Refusal → Answer
-started (Ok service) = Started service.session service.packet
-started (Err reason) = Refused reason
+started (Ok service) = Ok (Started service)
+started (Err reason) = Err reason
 
 abbrev pub finished : Result Service Refusal → Answer
-finished (Ok service) = Finished service.session service.packet
-finished (Err reason) = Refused reason
+finished (Ok service) = Ok (Finished service)
+finished (Err reason) = Err reason

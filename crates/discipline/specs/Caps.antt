@@ -3,8 +3,7 @@ use Rattle.std.specs.Prelude.{◌≡◌, ℕ, ◌-◌, min, cond, length, Some, 
 use Rattle.calls.specs.Strides.{within}
 use Rattle.calls.specs.declared.call.Call.{Call}
 use Rattle.calls.specs.declared.call.Call.TheVariants.{Open, Enter, Start, Finish}
-use Rattle.calls.specs.declared.call.Answer.{Answer}
-use Rattle.calls.specs.declared.call.Answer.TheVariants.{Refused}
+use Rattle.calls.specs.Answers.{Answer}
 use Rattle.calls.specs.declared.refusal.Refusal.{Refusal}
 use Rattle.calls.specs.declared.refusal.Refusal.TheVariants.{BadCap}
 use Rattle.sharing.specs.Meanings.{Meaning, waiting_in, refusal}
@@ -35,5 +34,5 @@ refused_by (Err reason) = Some reason
 
 -- a call that the cap refuses leaves what is below it; any other is a step of what is below it
 abbrev pub StepUnder : {X : Type 0} → Option Refusal → (X → Call → Answer → X → Type 0) → X → Call → Answer → X → Type 0
-StepUnder (Some reason) steps x call answer y = (answer ≡ Refused reason) × (y ≡ x)
+StepUnder (Some reason) steps x call answer y = (answer ≡ Err reason) × (y ≡ x)
 StepUnder None steps x call answer y = steps x call answer y

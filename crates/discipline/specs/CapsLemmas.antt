@@ -1,11 +1,10 @@
 -- What a cap adds to why a call is refused.
 use Rattle.std.specs.Prelude.{◌≡◌, ℕ, min, Some, None, Option, refl}
-use Rattle.std.proofs.Common.{arith}
+use Rattle.std.proofs.Common.{arith, Err}
 use Rattle.std.proofs.lemmas.Bool.Decides.{nat_tests}
 use Rattle.calls.specs.declared.call.Call.{Call}
 use Rattle.calls.specs.declared.call.Call.TheVariants.{Open, Enter, Start, Finish}
-use Rattle.calls.specs.declared.call.Answer.{Answer}
-use Rattle.calls.specs.declared.call.Answer.TheVariants.{Refused}
+use Rattle.calls.specs.Answers.{Answer}
 use Rattle.calls.specs.declared.refusal.Refusal.{Refusal}
 use Rattle.sharing.specs.Rules.{enter_refusal}
 use Rattle.sharing.specs.Meanings.{Meaning, General, refuses, refusal}
@@ -43,17 +42,17 @@ passed_under number m room reach Finish is = refl
 
 -- the two kinds of step under a cap
 pub step_cases : {X : Type 0} (steps : X → Call → Answer → X → Type 0) (why : Option Refusal) (x : X) (call : Call) (answer : Answer) (y : X) →
-    StepUnder why steps x call answer y → (R : Type 0) → ((reason : Refusal) → why ≡ Some reason → answer ≡ Refused reason → y ≡ x → R) →
+    StepUnder why steps x call answer y → (R : Type 0) → ((reason : Refusal) → why ≡ Some reason → answer ≡ Err reason → y ≡ x → R) →
     (why ≡ None → steps x call answer y → R) → R
 step_cases steps (Some reason) x call answer y step R stays goes = stays reason refl step.0 step.1
 step_cases steps None x call answer y step R stays goes = goes refl step
 
 -- a refused call changes no meaning
-pub general_refused : {x y : Meaning} {why : Option Refusal} {call : Call} {reason : Refusal} → General x why y call (Refused reason) → y ≡ x
+pub general_refused : {x y : Meaning} {why : Option Refusal} {call : Call} {reason : Refusal} → General x why y call (Err reason) → y ≡ x
 general_refused (refuses why same) = same
 
 -- and is a self-clocked step that changes nothing
-pub clocked_refused : (x : Clocked) (call : Call) (reason : Refusal) → ClockedStep x call (Refused reason) x
+pub clocked_refused : (x : Clocked) (call : Call) (reason : Refusal) → ClockedStep x call (Err reason) x
 clocked_refused x call reason = record {
   why = Some reason;
   allowed = λ none. let z : ◌≡◌ {A = ℕ} 0 1 = cc in absurd (omega arith);

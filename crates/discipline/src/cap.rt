@@ -1,19 +1,18 @@
 // Caps: a discipline over another one, with at most so many packets of one session waiting.
-ghost use Rattle.std.specs.Prelude.{◌≡◌, ℕ, ◌-◌, ◌<◌, ◌≤◌, Ok, Err};
+ghost use Rattle.std.specs.Prelude.{◌≡◌, ℕ, ◌-◌, ◌<◌, ◌≤◌, Ok, Err, MatchResult};
 ghost use Rattle.std.proofs.Common.{sym, subst, ap, arith, rules};
 ghost use Rattle.calls.specs.declared.call.Call.TheVariants.{Enter};
 ghost use Rattle.discipline.specs.Caps.{cap_answer, places, room_under, cap_refusal, refused_by, StepUnder};
 ghost use Rattle.discipline.specs.CapsLemmas.{step_cases, refused_under, passed_under, general_refused, clocked_refused};
 ghost use Rattle.sharing.specs.Meanings.{Meaning, General, waiting_in};
 ghost use Rattle.sharing.specs.Meanings;
-ghost use Rattle.calls.specs.declared.call.Answer.TheVariants.{Refused};
 ghost use Rattle.std.proofs.Math.ListN;
 ghost use Rattle.sharing.proofs.Sums.{term_le_sum};
 ghost use Rattle.sharing.specs.Clocked.{ClockedStep};
 
 use crate::discipline::{Discipline, SelfClockedDiscipline};
 use calls::call::{Service, Terms};
-use calls::refusal::Refusal;
+use calls::refusal::{Refusal, check_within};
 
 // The number of a cap: 1 to 256.
 #[derive(Clone, Copy)]
@@ -23,23 +22,27 @@ pub struct CapNumber {
     ghost small: { number ≤ 256 },
 }
 
-impl CapNumber {
-    // Refused by 12.
-    pub fn admit(number: u32) -> Result<CapNumber, Refusal>
-        ensures { elim result [ Ok cap ↦ cap_answer number ≡ Ok cap.number | Err reason ↦ cap_answer number ≡ Err reason ] }
-    {
-        if number == 0 || number > 256 {
-            return Err(Refusal::BadCap);
-        }
+// Refused by 12.
+impl TryFrom<u32> for CapNumber {
+    type Error = Refusal;
+
+    ghost try_from_gives = { λ number result. MatchResult result (λ cap. cap_answer number ≡ Ok cap.number) (λ reason. cap_answer number ≡ Err reason) };
+
+    fn try_from(number: u32) -> Result<CapNumber, Refusal> {
+        check_within(number, 256, Refusal::BadCap)?;
         Ok(CapNumber { number })
     }
+}
 
-    pub fn number(self) -> u32
-        ensures { result ≡ self.number }
-    {
-        self.number
+impl From<CapNumber> for u32 {
+    ghost from_gives = { λ cap number. number ≡ cap.number };
+
+    fn from(cap: CapNumber) -> u32 {
+        cap.number
     }
+}
 
+impl CapNumber {
     // How many more may wait beside these.
     fn places(self, waiting: u32) -> u32
         ensures { result ≡ self.number - waiting }
@@ -69,9 +72,7 @@ impl<D: Discipline + Drop> Cap<D> {
         ensures { refused_by result ≡ cap_refusal self.now.cap.number (D.Discipline.meaning self.now.below) (Enter session length 0) }
     {
         let terms = self.below.terms(session)?;
-        if length == 0 || length > terms.limit {
-            return Err(Refusal::BadLength);
-        }
+        check_within(length, terms.limit, Refusal::BadLength)?;
         let waiting = self.below.waiting_count(session)?;
         if self.cap.places(waiting) == 0 {
             return Err(Refusal::Full);
@@ -121,13 +122,13 @@ impl<D: Discipline + Drop> Discipline for Cap<D> {
         let all : (n : Meaning) (room : ℕ → ℕ) → n ≡ m → room ≡ d.room x.below →
         room_under y.cap.number n room ≡ room_under x.cap.number m (d.room x.below) =
         λ n room p q i. room_under (number i) (p i) (q i) in
-        step_cases d.steps (cap_refusal x.cap.number m c) x.below c (Refused e) y.below step.1
+        step_cases d.steps (cap_refusal x.cap.number m c) x.below c (Err e) y.below step.1
         ((room_under y.cap.number (d.meaning y.below) (d.room y.below) ≡ room_under x.cap.number m (d.room x.below)) ×
         (d.reach y.below ≡ d.reach x.below))
         (λ reason is said same. (all _ _ (ap d.meaning same) (ap d.room same), ap d.reach same))
         (λ is one.
         let left = D.Discipline.refuses x.below y.below c e ok one in
-        (all _ _ (general_refused (D.Discipline.moves x.below y.below c (Refused e) ok one)) left.0, left.1)) };
+        (all _ _ (general_refused (D.Discipline.moves x.below y.below c (Err e) ok one)) left.0, left.1)) };
 
     ghost idles = { λ x s t ok low none free opened.
         let m : Meaning = D.Discipline.meaning x.below in
@@ -196,6 +197,6 @@ impl<D: SelfClockedDiscipline + Drop> SelfClockedDiscipline for Cap<D> {
         let k = D.SelfClockedDiscipline.clocked in
         step_cases D.Discipline.steps (cap_refusal x.cap.number (D.Discipline.meaning x.below) c) x.below c a y.below step.1
         (ClockedStep (k x.below) c a (k y.below))
-        (λ reason is said same. rw said (subst (λ z. ClockedStep (k x.below) c (Refused reason) (k z)) (sym same) (clocked_refused (k x.below) c reason)))
+        (λ reason is said same. rw said (subst (λ z. ClockedStep (k x.below) c (Err reason) (k z)) (sym same) (clocked_refused (k x.below) c reason)))
         (λ is one. D.SelfClockedDiscipline.clocked_steps x.below y.below c a ok one) };
 }

@@ -1,10 +1,9 @@
 // What every discipline shows, and what a self-clocked one shows besides.
-ghost use Rattle.std.specs.Prelude.{◌≡◌, ℕ, ◌<◌, ◌≤◌, Some, None};
+ghost use Rattle.std.specs.Prelude.{◌≡◌, ℕ, ◌<◌, ◌≤◌, Some, None, Err};
 ghost use Rattle.calls.specs.declared.refusal.Refusal.{Refusal as Reason};
 ghost use Rattle.calls.specs.declared.call.Call.{Call as Asked};
 ghost use Rattle.calls.specs.declared.call.Call.TheVariants.{Open, Enter, Start, Finish};
-ghost use Rattle.calls.specs.declared.call.Answer.{Answer as Said};
-ghost use Rattle.calls.specs.declared.call.Answer.TheVariants.{Refused};
+ghost use Rattle.calls.specs.Answers.{Answer as Said};
 ghost use Rattle.sharing.specs.Meanings.{Meaning, Session, General, nothing_open, refusal, all_waiting, terms_answer, count_answer, lengths_answer, octets_answer, room_answer, reach_answer};
 ghost use Rattle.sharing.specs.Clocked.{Clocked, New, ClockedStep};
 ghost use Rattle.discipline.specs.Answers.{opened, entered, started, finished};
@@ -83,7 +82,7 @@ pub trait Discipline {
     ghost moves: { (x y : Self) (c : Asked) (a : Said) → sound x → steps x c a y → General (meaning x) (refusal (meaning x) (room x) (reach x) c) (meaning y) c a };
 
     // A refused call leaves every room and reach too.
-    ghost refuses: { (x y : Self) (c : Asked) (e : Reason) → sound x → steps x c (Refused e) y → (room y ≡ room x) × (reach y ≡ reach x) };
+    ghost refuses: { (x y : Self) (c : Asked) (e : Reason) → sound x → steps x c (Err e) y → (room y ≡ room x) × (reach y ≡ reach x) };
 
     // With nothing waiting and nothing in service each open session has room, and reaches its limit.
     ghost idles: { (x : Self) (s : ℕ) (t : Session) → sound x → s < 64 → all_waiting (meaning x) ≡ 0 → (meaning x).in_service ≡ None → (meaning x).session s ≡ Some t → (0 < room x s) × (t.limit ≤ reach x s) };

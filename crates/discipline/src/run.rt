@@ -4,7 +4,7 @@ ghost use Rattle.sharing.specs.Statements.{OrderPreserved, Fair};
 ghost use Rattle.discipline.specs.Continues.{run_answer, RunEffect, Made};
 
 use crate::discipline::{Discipline, SelfClockedDiscipline};
-use calls::call::{Answer, Call};
+use calls::call::{Answer, Call, Reply};
 use calls::refusal::Refusal;
 
 // Makes one call.
@@ -16,32 +16,20 @@ pub fn apply<D: Discipline>(line: &mut D, call: Call) -> Answer
             session,
             weight,
             limit,
-        } => match line.open(session, weight, limit) {
-            Ok(()) => Answer::Opened,
-            Err(refusal) => Answer::Refused(refusal),
-        },
+        } => {
+            line.open(session, weight, limit)?;
+            Ok(Reply::Opened)
+        }
         Call::Enter {
             session,
             length,
             ticket,
-        } => match line.enter(session, length, ticket) {
-            Ok(mark) => Answer::Entered { mark },
-            Err(refusal) => Answer::Refused(refusal),
-        },
-        Call::Start => match line.start() {
-            Ok(service) => Answer::Started {
-                session: service.session,
-                packet: service.packet,
-            },
-            Err(refusal) => Answer::Refused(refusal),
-        },
-        Call::Finish => match line.finish() {
-            Ok(service) => Answer::Finished {
-                session: service.session,
-                packet: service.packet,
-            },
-            Err(refusal) => Answer::Refused(refusal),
-        },
+        } => {
+            let mark = line.enter(session, length, ticket)?;
+            Ok(Reply::Entered { mark })
+        }
+        Call::Start => Ok(Reply::Started(line.start()?)),
+        Call::Finish => Ok(Reply::Finished(line.finish()?)),
     }
 }
 

@@ -2,7 +2,7 @@
 use Rattle.std.specs.Prelude.{◌≡◌, ℕ, List, [], ◌∷◌, ◌++◌, Ok, Err, Result}
 use Rattle.std.specs.List.{flat_map}
 use Rattle.calls.specs.declared.call.Call.{Call}
-use Rattle.calls.specs.declared.call.Answer.{Answer}
+use Rattle.calls.specs.Answers.{Answer}
 use Rattle.sharing.specs.Histories.{History}
 use Rattle.sharing.specs.Runs.{Led}
 use Rattle.sharing.specs.Statements.{Fair}

@@ -1,11 +1,11 @@
 // The lines of a listing: what was said to each call or about each faulty line, and how each open session stands at the end.
-ghost use Rattle.std.specs.Prelude.{◌≡◌, ◌+◌, ◌≤◌, length};
-ghost use Rattle.calls.specs.declared.call.Answer.TheVariants.{Started, Finished, Refused, Entered, Opened};
+ghost use Rattle.std.specs.Prelude.{◌≡◌, ◌+◌, ◌≤◌, length, Ok, Err};
+ghost use Rattle.calls.specs.declared.call.Reply.TheVariants.{Started, Finished, Entered, Opened};
 ghost use Rattle.trace.specs.Texts.{Wrote, numbered_line, session_of, answer_text, fault_text, closing_text};
 ghost use Rattle.listing.specs.Texts.{ticket_text, length_text, mark_text, octets_text, waiting_text};
 
 use crate::text::{put, put_field, put_wide_field};
-use calls::call::{Answer, Call, Packet};
+use calls::call::{Answer, Call, Packet, Reply, Service};
 use calls::refusal::Refusal;
 use trace::fault::LineFault;
 use trace::listing::Closing;
@@ -82,7 +82,7 @@ fn put_waiting(out: &mut [u8], start: usize, closing: Closing) -> usize
 
 fn put_opened(out: &mut [u8], start: usize, at: u32, call: Call) -> usize
     requires { start + 96 ≤ length out.old }
-    ensures wrote { Wrote out.old start (answer_text at call Opened) out.new result }
+    ensures wrote { Wrote out.old start (answer_text at call (Ok Opened)) out.new result }
     ensures short { result ≤ start + 96 }
 {
     let place = put_at(out, start, at);
@@ -92,7 +92,7 @@ fn put_opened(out: &mut [u8], start: usize, at: u32, call: Call) -> usize
 
 fn put_entered(out: &mut [u8], start: usize, at: u32, call: Call, mark: u64) -> usize
     requires { start + 96 ≤ length out.old }
-    ensures wrote { Wrote out.old start (answer_text at call (Entered mark)) out.new result }
+    ensures wrote { Wrote out.old start (answer_text at call (Ok (Entered mark))) out.new result }
     ensures short { result ≤ start + 96 }
 {
     let place = put_at(out, start, at);
@@ -101,47 +101,33 @@ fn put_entered(out: &mut [u8], start: usize, at: u32, call: Call, mark: u64) -> 
     put(out, place, b"\n")
 }
 
-fn put_started(
-    out: &mut [u8],
-    start: usize,
-    at: u32,
-    call: Call,
-    session: u32,
-    packet: Packet,
-) -> usize
+fn put_started(out: &mut [u8], start: usize, at: u32, call: Call, service: Service) -> usize
     requires { start + 96 ≤ length out.old }
-    ensures wrote { Wrote out.old start (answer_text at call (Started session packet)) out.new result }
+    ensures wrote { Wrote out.old start (answer_text at call (Ok (Started service))) out.new result }
     ensures short { result ≤ start + 96 }
 {
     let place = put_at(out, start, at);
-    let place = put_field(out, place, b" said=started session=", session);
-    let place = put_ticket(out, place, packet);
-    let place = put_mark(out, place, packet.mark);
+    let place = put_field(out, place, b" said=started session=", service.session);
+    let place = put_ticket(out, place, service.packet);
+    let place = put_mark(out, place, service.packet.mark);
     put(out, place, b"\n")
 }
 
-fn put_finished(
-    out: &mut [u8],
-    start: usize,
-    at: u32,
-    call: Call,
-    session: u32,
-    packet: Packet,
-) -> usize
+fn put_finished(out: &mut [u8], start: usize, at: u32, call: Call, service: Service) -> usize
     requires { start + 96 ≤ length out.old }
-    ensures wrote { Wrote out.old start (answer_text at call (Finished session packet)) out.new result }
+    ensures wrote { Wrote out.old start (answer_text at call (Ok (Finished service))) out.new result }
     ensures short { result ≤ start + 96 }
 {
     let place = put_at(out, start, at);
-    let place = put_field(out, place, b" said=finished session=", session);
-    let place = put_ticket(out, place, packet);
-    let place = put_length(out, place, packet);
+    let place = put_field(out, place, b" said=finished session=", service.session);
+    let place = put_ticket(out, place, service.packet);
+    let place = put_length(out, place, service.packet);
     put(out, place, b"\n")
 }
 
 fn put_refused(out: &mut [u8], start: usize, at: u32, call: Call, reason: Refusal) -> usize
     requires { start + 96 ≤ length out.old }
-    ensures wrote { Wrote out.old start (answer_text at call (Refused reason)) out.new result }
+    ensures wrote { Wrote out.old start (answer_text at call (Err reason)) out.new result }
     ensures short { result ≤ start + 96 }
 {
     let place = put_at(out, start, at);
@@ -156,11 +142,11 @@ pub(crate) fn put_answer(out: &mut [u8], start: usize, at: u32, call: Call, answ
     ensures short { result ≤ start + 96 }
 {
     match answer {
-        Answer::Opened => put_opened(out, start, at, call),
-        Answer::Entered { mark } => put_entered(out, start, at, call, mark),
-        Answer::Started { session, packet } => put_started(out, start, at, call, session, packet),
-        Answer::Finished { session, packet } => put_finished(out, start, at, call, session, packet),
-        Answer::Refused(reason) => put_refused(out, start, at, call, reason),
+        Ok(Reply::Opened) => put_opened(out, start, at, call),
+        Ok(Reply::Entered { mark }) => put_entered(out, start, at, call, mark),
+        Ok(Reply::Started(service)) => put_started(out, start, at, call, service),
+        Ok(Reply::Finished(service)) => put_finished(out, start, at, call, service),
+        Err(reason) => put_refused(out, start, at, call, reason),
     }
 }
 

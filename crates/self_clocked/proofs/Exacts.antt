@@ -3,7 +3,7 @@ use Rattle.std.proofs.Common.{◌≡◌, ℕ, ◌<◌, List, ◌∷◌, length, 
 use Rattle.std.proofs.lemmas.List.{length-append}
 use Rattle.calls.specs.declared.call.Packet.{Packet}
 use Rattle.calls.specs.declared.call.Call.{Call}
-use Rattle.calls.specs.declared.call.Answer.{Answer}
+use Rattle.calls.specs.Answers.{Answer}
 use Rattle.sharing.specs.Histories.{History}
 use Rattle.sharing.specs.Meanings.{waiting_in, in_service_of}
 use Rattle.sharing.specs.Clocked.{Clocked, New, ClockedStep}

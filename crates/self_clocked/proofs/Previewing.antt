@@ -1,11 +1,11 @@
 -- A preview: the heap of the first packets, and the starts one after the other.
-use Rattle.std.proofs.Common.{◌≡◌, ℕ, ◌+◌, ◌<◌, ◌≤◌, ◌&&◌, leb, ◌⊎◌, List, [], ◌∷◌, ◌++◌, length, drop, set, replicate, Some, None, Ok, Option, sym, refl, ap, ◌∙◌, inl, inr, arith}
+use Rattle.std.proofs.Common.{◌≡◌, ℕ, ◌+◌, ◌<◌, ◌≤◌, ◌&&◌, leb, ◌⊎◌, List, [], ◌∷◌, ◌++◌, length, drop, set, replicate, Some, None, Ok, Option, sym, refl, ap, ◌∙◌, inl, inr, arith, Err}
 use Rattle.std.proofs.lemmas.List.{append_assoc, append-nil, length-append, length-drop, drop-drop, length-set, get_or-set_same, get_or-set_other, get_or-replicate}
 use Rattle.std.proofs.lemmas.Bool.{cases_lt, cases_eq, and_parts, leb-true}
 use Rattle.calls.specs.declared.call.Packet.{Packet}
 use Rattle.calls.specs.declared.call.Service.{Service}
 use Rattle.calls.specs.declared.call.Call.TheVariants.{Start, Finish}
-use Rattle.calls.specs.declared.call.Answer.TheVariants.{Started, Refused}
+use Rattle.calls.specs.declared.call.Reply.TheVariants.{Started}
 use Rattle.calls.specs.declared.refusal.Refusal.{Refusal}
 use Rattle.calls.specs.declared.refusal.Refusal.TheVariants.{ShortBuffer}
 use Rattle.waiting.specs.Queues.{first_of}
@@ -89,10 +89,10 @@ pub rested_room : (x y : Clocked) (n : ℕ) → y ≡ after x Finish → all_wai
 rested_room x y n to room = omega (arith, ap (λ z. all_waiting z.meaning) to, finish_waits x)
 
 -- a start that was accepted was allowed
-not_refused : (y : Clocked) (service : Service) → Started service.session service.packet ≡ answer_to y Start → refusal_of y Start ≡ None
+not_refused : (y : Clocked) (service : Service) → Ok (Started service) ≡ answer_to y Start → refusal_of y Start ≡ None
 not_refused y service is = go (refusal_of y Start) is
   where
-    go : (o : Option Refusal) → Started service.session service.packet ≡ decided o (accepted_answer y Start) → o ≡ None
+    go : (o : Option Refusal) → Ok (Started service) ≡ decided o (accepted_answer y Start) → o ≡ None
     go None e = refl
     go (Some reason) e = let z : ◌≡◌ {A = ℕ} 0 1 = cc in let no : ⊥ = omega arith in absurd no
 
@@ -108,7 +108,7 @@ put_next done before n ticket long inside =
     ap (λ ts. (done ++ ticket ∷ []) ++ ts) (drop-drop 1 n before)
 
 module _ (x : Clocked) (before : List ℕ) (y : Clocked) (tickets : List ℕ) (count : ℕ) (so_far : Written x before y tickets count)
-    (room : all_waiting x.meaning ≤ length before) (service : Service) (is : Started service.session service.packet ≡ answer_to y Start) where
+    (room : all_waiting x.meaning ≤ length before) (service : Service) (is : Ok (Started service) ≡ answer_to y Start) where
   pub written_room : count < length before
   written_room = let b = begins y (not_refused y service is) in omega (arith, so_far.left, b.one_less)
 
@@ -129,7 +129,7 @@ module _ (x : Clocked) (before : List ℕ) (y : Clocked) (tickets : List ℕ) (c
       }
 
 -- with nothing in service a start is refused only where nothing waits
-none_left : (y : Clocked) (reason : Refusal) → y.meaning.in_service ≡ None → Refused reason ≡ answer_to y Start → all_waiting y.meaning ≡ 0
+none_left : (y : Clocked) (reason : Refusal) → y.meaning.in_service ≡ None → Err reason ≡ answer_to y Start → all_waiting y.meaning ≡ 0
 none_left y reason free is = go (cases_lt 0 (all_waiting y.meaning))
   where
     go : (0 < all_waiting y.meaning) ⊎ (all_waiting y.meaning ≤ 0) → all_waiting y.meaning ≡ 0
@@ -142,7 +142,7 @@ none_left y reason free is = go (cases_lt 0 (all_waiting y.meaning))
     go (inr none) = omega arith
 
 module _ (x y z : Clocked) (before tickets : List ℕ) (count : ℕ) (reason : Refusal) (to : y ≡ after x Finish) (so_far : Written y before z tickets count)
-    (is : Refused reason ≡ answer_to z Start) where
+    (is : Err reason ≡ answer_to z Start) where
   none : all_waiting z.meaning ≡ 0
   none = none_left z reason so_far.free is
 

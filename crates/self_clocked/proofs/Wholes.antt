@@ -1,7 +1,7 @@
 -- A row of calls on a new line is a whole run.
 use Rattle.std.proofs.Common.{◌≡◌, ℕ, List, [], Some, None, Ok, Err, Option, Result, sym, ap, ◌∙◌, subst}
 use Rattle.calls.specs.declared.call.Call.{Call}
-use Rattle.calls.specs.declared.call.Answer.{Answer}
+use Rattle.calls.specs.Answers.{Answer}
 use Rattle.calls.specs.declared.refusal.Refusal.{Refusal}
 use Rattle.sharing.specs.Meanings.{Meaning}
 use Rattle.sharing.specs.Clocked.{Clocked, New}

@@ -1,13 +1,13 @@
 -- Each call as it is made is the exact step, and the line is sound after it.
 use Rattle.std.specs.Prelude.{◌≡◌, ℕ, zero, suc, Bool, true, false, cond, List, [], ◌∷◌, replicate, is_some, Some, None, Ok, Option, Result, ◌==◌, nat_eq, slice_index, slice_set, refl}
-use Rattle.std.proofs.Common.{sym, ap, subst, ◌∙◌, arith}
+use Rattle.std.proofs.Common.{sym, ap, subst, ◌∙◌, arith, Err}
 use Rattle.std.proofs.lemmas.List.{get_or-replicate}
 use Rattle.calls.specs.declared.call.Packet.{Packet}
 use Rattle.calls.specs.declared.call.Service.{Service}
 use Rattle.calls.specs.declared.call.Call.{Call}
 use Rattle.calls.specs.declared.call.Call.TheVariants.{Open, Enter, Start, Finish}
-use Rattle.calls.specs.declared.call.Answer.{Answer}
-use Rattle.calls.specs.declared.call.Answer.TheVariants.{Entered, Refused}
+use Rattle.calls.specs.Answers.{Answer}
+use Rattle.calls.specs.declared.call.Reply.TheVariants.{Entered}
 use Rattle.calls.specs.declared.refusal.Refusal.{Refusal}
 use Rattle.ready.specs.Tags.{Tags, no_entries, least_of, without}
 use Rattle.ready.specs.Leasts.{least_tag}
@@ -61,7 +61,7 @@ verdict_ok (Some other) value given e = let z : ◌≡◌ {A = ℕ} 0 1 = cc in 
 -- ---- a refused call
 
 pub step_refused : (tags : Tags) (x y : Clocked) (call : Call) (reason : Refusal) → refusal_of x call ≡ Some reason → y ≡ x → Sound tags x →
-    Stepped tags x call (Refused reason) y
+    Stepped tags x call (Err reason) y
 step_refused tags x y call reason why same ok = (
   record { answer = sym (ap (λ o. decided o (accepted_answer x call)) why); after = same ∙ sym (ap (λ o. settled o x (accepted_after x call)) why) },
   subst (Sound tags) (sym same) ok,
@@ -118,7 +118,7 @@ step_entered tags x y s n ticket mark is to ready =
     let may = admitted x s n ticket mark is in
     let p : Packet = record { length = n; ticket = ticket; mark = mark } in
     let o = put_parts x.meaning s may.putting in
-    step_accepted tags x y (Enter s n ticket) (Entered mark) may.allowed (ap Entered may.mark_is)
+    step_accepted tags x y (Enter s n ticket) (Ok (Entered mark)) may.allowed (ap (λ m. Ok (Entered m)) may.mark_is)
     (to ∙ (λ i. entered_at x s (record { length = n; ticket = ticket; mark = may.mark_is i })))
     (subst (Sound tags) (sym to) (sound_entered tags x s p o.session o.is_open (ready ∙ ap (λ z. first_marks z.meaning) to)))
 

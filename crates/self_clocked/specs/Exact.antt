@@ -1,12 +1,12 @@
 -- The exact rule of the self-clocked line: what each call answers, and the state that it leaves.
-use Rattle.std.specs.Prelude.{◌≡◌, ℕ, ◌<◌, max, List, [], ◌∷◌, map, Some, None, Ok, Option, Result, slice_set}
+use Rattle.std.specs.Prelude.{◌≡◌, ℕ, ◌<◌, max, List, [], ◌∷◌, map, Some, None, Ok, Option, Result, slice_set, Err}
 use Rattle.std.specs.List.{range_with_len}
 use Rattle.calls.specs.declared.call.Packet.{Packet}
 use Rattle.calls.specs.declared.call.Service.{Service}
 use Rattle.calls.specs.declared.call.Call.{Call}
 use Rattle.calls.specs.declared.call.Call.TheVariants.{Open, Enter, Start, Finish}
-use Rattle.calls.specs.declared.call.Answer.{Answer}
-use Rattle.calls.specs.declared.call.Answer.TheVariants.{Opened, Entered, Started, Finished, Refused}
+use Rattle.calls.specs.Answers.{Answer}
+use Rattle.calls.specs.declared.call.Reply.TheVariants.{Opened, Entered, Started, Finished}
 use Rattle.calls.specs.declared.refusal.Refusal.{Refusal}
 use Rattle.calls.specs.declared.refusal.Refusal.TheVariants.{NothingWaiting, NothingInService}
 use Rattle.ready.specs.Order.{Entry}
@@ -65,17 +65,17 @@ enter_answer x s length = verdict (refusal_of x (Enter s length 0)) (mark_for x 
 
 -- where nothing waits a start is refused
 abbrev pub started_with : Option Service → Answer
-started_with None = Refused NothingWaiting
-started_with (Some service) = Started service.session service.packet
+started_with None = Err NothingWaiting
+started_with (Some service) = Ok (Started service)
 
 -- where nothing is in service a finish is refused
 abbrev pub finished_with : Option Service → Answer
-finished_with None = Refused NothingInService
-finished_with (Some service) = Finished service.session service.packet
+finished_with None = Err NothingInService
+finished_with (Some service) = Ok (Finished service)
 
 abbrev pub accepted_answer : Clocked → Call → Answer
-accepted_answer x (Open s weight limit) = Opened
-accepted_answer x (Enter s length ticket) = Entered (mark_for x s length)
+accepted_answer x (Open s weight limit) = Ok Opened
+accepted_answer x (Enter s length ticket) = Ok (Entered (mark_for x s length))
 accepted_answer x Start = started_with (next x.meaning)
 accepted_answer x Finish = finished_with x.meaning.in_service
 
@@ -116,7 +116,7 @@ accepted_after x Finish = finished_at x x.meaning.in_service
 -- a refused call is answered with the reason
 abbrev pub decided : Option Refusal → Answer → Answer
 decided None answer = answer
-decided (Some reason) answer = Refused reason
+decided (Some reason) answer = Err reason
 
 -- and changes nothing
 abbrev pub answer_to : Clocked → Call → Answer

@@ -1,12 +1,12 @@
 -- The order in which the waiting packets start if only start and finish come from now on.
-use Rattle.std.specs.Prelude.{◌≡◌, ℕ, zero, suc, ◌&&◌, List, [], ◌∷◌, ◌++◌, map, length, drop, replicate, None, Option, Result, nat_le}
+use Rattle.std.specs.Prelude.{◌≡◌, ℕ, zero, suc, ◌&&◌, List, [], ◌∷◌, ◌++◌, map, length, drop, replicate, None, Option, Result, nat_le, Ok, Err}
 use Rattle.std.specs.List.{AllByRecursion}
 use Rattle.calls.specs.declared.call.Packet.{Packet}
 use Rattle.calls.specs.declared.call.Service.{Service}
 use Rattle.calls.specs.declared.call.Call.{Call}
 use Rattle.calls.specs.declared.call.Call.TheVariants.{Open, Enter, Start, Finish}
-use Rattle.calls.specs.declared.call.Answer.{Answer}
-use Rattle.calls.specs.declared.call.Answer.TheVariants.{Opened, Entered, Started, Finished, Refused}
+use Rattle.calls.specs.Answers.{Answer}
+use Rattle.calls.specs.declared.call.Reply.TheVariants.{Opened, Entered, Started, Finished}
 use Rattle.calls.specs.declared.refusal.Refusal.{Refusal}
 use Rattle.calls.specs.declared.refusal.Refusal.TheVariants.{ShortBuffer}
 use Rattle.ready.specs.Order.{Entry, AtMost}
@@ -28,11 +28,11 @@ finishes_and_starts (suc n) = Finish ∷ Start ∷ finishes_and_starts n
 
 -- the packet that was started, if one was
 abbrev pub started_by : Answer → List Service
-started_by Opened = []
-started_by (Entered mark) = []
-started_by (Started s packet) = record { session = s; packet = packet } ∷ []
-started_by (Finished s packet) = []
-started_by (Refused reason) = []
+started_by (Ok Opened) = []
+started_by (Ok (Entered mark)) = []
+started_by (Ok (Started service)) = service ∷ []
+started_by (Ok (Finished service)) = []
+started_by (Err reason) = []
 
 abbrev pub started_in : List Answer → List Service
 started_in [] = []

@@ -1,7 +1,7 @@
 -- Calls in a row by the exact rule.
 use Rattle.std.specs.Prelude.{List, [], ◌∷◌}
 use Rattle.calls.specs.declared.call.Call.{Call}
-use Rattle.calls.specs.declared.call.Answer.{Answer}
+use Rattle.calls.specs.Answers.{Answer}
 use Rattle.sharing.specs.Clocked.{Clocked}
 use Rattle.sharing.specs.Meanings.{nothing_open}
 use Rattle.self_clocked.specs.Exact.{answer_to, after}

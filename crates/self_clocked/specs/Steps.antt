@@ -1,6 +1,6 @@
 -- Each exact step of a sound line is a general step, and a self-clocked one.
 use Rattle.std.specs.Prelude.{◌≡◌, ℕ, zero, suc, ◌<◌, ◌≤◌, ◌⊎◌, List, [], ◌∷◌, length, is_some, Some, None, Option, refl}
-use Rattle.std.proofs.Common.{inl, inr, sym, ap, subst, subst₂, ◌∙◌, arith}
+use Rattle.std.proofs.Common.{inl, inr, sym, ap, subst, subst₂, ◌∙◌, arith, Err}
 use Rattle.std.proofs.lemmas.Bool.{cases_lt}
 use Rattle.std.proofs.lemmas.Bool.Decides.{nat_tests}
 use Rattle.calls.specs.Sums.{sum_below}
@@ -8,8 +8,7 @@ use Rattle.calls.specs.declared.call.Packet.{Packet}
 use Rattle.calls.specs.declared.call.Service.{Service}
 use Rattle.calls.specs.declared.call.Call.{Call}
 use Rattle.calls.specs.declared.call.Call.TheVariants.{Open, Enter, Start, Finish}
-use Rattle.calls.specs.declared.call.Answer.{Answer}
-use Rattle.calls.specs.declared.call.Answer.TheVariants.{Refused}
+use Rattle.calls.specs.Answers.{Answer}
 use Rattle.calls.specs.declared.refusal.Refusal.{Refusal}
 use Rattle.ready.specs.Order.{Entry, AtMost}
 use Rattle.ready.specs.Tags.{tag_of, least_of}
@@ -162,23 +161,23 @@ module _ (x : Clocked) (waits_below : (s : ℕ) (q : Packet) (qs : List Packet) 
 
 -- ---- a refused call changes nothing
 
-accepted_refused : (x : Clocked) (call : Call) (reason : Refusal) → accepted_answer x call ≡ Refused reason → accepted_after x call ≡ x
+accepted_refused : (x : Clocked) (call : Call) (reason : Refusal) → accepted_answer x call ≡ Err reason → accepted_after x call ≡ x
 accepted_refused x (Open s weight limit) reason e = let z : ◌≡◌ {A = ℕ} 0 1 = cc in let no : ⊥ = omega arith in absurd no
 accepted_refused x (Enter s length ticket) reason e = let z : ◌≡◌ {A = ℕ} 0 1 = cc in let no : ⊥ = omega arith in absurd no
 accepted_refused x Start reason e = go (next x.meaning) e
   where
-    go : (o : Option Service) → started_with o ≡ Refused reason → started_at x o ≡ x
+    go : (o : Option Service) → started_with o ≡ Err reason → started_at x o ≡ x
     go None e = refl
     go (Some service) e = let z : ◌≡◌ {A = ℕ} 0 1 = cc in let no : ⊥ = omega arith in absurd no
 accepted_refused x Finish reason e = go x.meaning.in_service e
   where
-    go : (o : Option Service) → finished_with o ≡ Refused reason → finished_at x o ≡ x
+    go : (o : Option Service) → finished_with o ≡ Err reason → finished_at x o ≡ x
     go None e = refl
     go (Some service) e = let z : ◌≡◌ {A = ℕ} 0 1 = cc in let no : ⊥ = omega arith in absurd no
 
-pub exact_refused : (x y : Clocked) (call : Call) (reason : Refusal) → Exact x call (Refused reason) y → y ≡ x
+pub exact_refused : (x y : Clocked) (call : Call) (reason : Refusal) → Exact x call (Err reason) y → y ≡ x
 exact_refused x y call reason e = e.after ∙ go (refusal_of x call) (sym e.answer)
   where
-    go : (o : Option Refusal) → decided o (accepted_answer x call) ≡ Refused reason → settled o x (accepted_after x call) ≡ x
+    go : (o : Option Refusal) → decided o (accepted_answer x call) ≡ Err reason → settled o x (accepted_after x call) ≡ x
     go (Some other) is = refl
     go None is = accepted_refused x call reason is

@@ -1,7 +1,7 @@
 -- Whole runs, from a new line on.
 use Rattle.std.specs.Prelude.{◌≡◌, ℕ, List, [], ◌++◌, length, drop, Ok, Err, Result}
 use Rattle.calls.specs.declared.call.Call.{Call}
-use Rattle.calls.specs.declared.call.Answer.{Answer}
+use Rattle.calls.specs.Answers.{Answer}
 use Rattle.calls.specs.declared.refusal.Refusal.{Refusal}
 use Rattle.discipline.specs.Caps.{cap_refusal, StepUnder}
 use Rattle.sharing.specs.Histories.{History}

@@ -6,7 +6,7 @@ use Rattle.calls.specs.Sums.{sum_below}
 use Rattle.calls.proofs.Tables.{weight_times_stride}
 use Rattle.calls.specs.declared.call.Packet.{Packet}
 use Rattle.calls.specs.declared.call.Call.{Call}
-use Rattle.calls.specs.declared.call.Answer.{Answer}
+use Rattle.calls.specs.Answers.{Answer}
 use Rattle.calls.specs.declared.refusal.Refusal.{Refusal}
 use Rattle.sharing.specs.Histories.{History, finished, charges, served, sent, sent_by, finished_by, packet_of, Terms, weight_in, most_in}
 use Rattle.sharing.specs.Meanings.{Meaning, waiting_in, served_of, General}

@@ -1,12 +1,12 @@
 -- The examples, computed.
-use Rattle.std.proofs.Common.{◌≡◌, ℕ, zero, suc, ◌+◌, ◌*◌, ◌≤◌, List, [], ◌∷◌, ◌++◌, Some, None, refl, ap, arith}
+use Rattle.std.proofs.Common.{◌≡◌, ℕ, zero, suc, ◌+◌, ◌*◌, ◌≤◌, List, [], ◌∷◌, ◌++◌, Some, None, refl, ap, arith, Ok}
 use Rattle.std.proofs.lemmas.Bool.{ne_eqb}
 use Rattle.calls.specs.Sums.{sum_below}
 use Rattle.calls.specs.declared.call.Packet.{Packet}
 use Rattle.calls.specs.declared.call.Call.{Call}
 use Rattle.calls.specs.declared.call.Call.TheVariants.{Open, Enter, Start, Finish}
-use Rattle.calls.specs.declared.call.Answer.{Answer}
-use Rattle.calls.specs.declared.call.Answer.TheVariants.{Opened, Entered, Started, Finished}
+use Rattle.calls.specs.Answers.{Answer}
+use Rattle.calls.specs.declared.call.Reply.TheVariants.{Opened, Entered, Started, Finished}
 use Rattle.sharing.specs.Histories.{weight_in}
 use Rattle.sharing.specs.Rules.{mark_after}
 use Rattle.sharing.specs.Meanings.{Meaning, nothing_open, terms_at, waiting_in, after_open, after_enter, after_start, after_finish}
@@ -137,22 +137,22 @@ none_else n =
     rw (not-0, not-1) (refl, refl, refl)
 
 module _ (x : Clocked) (s : ℕ) where
-  opening : (w l : ℕ) → general.Allowed x.meaning (Open s w l) → ClockedStep x (Open s w l) Opened (opened x s w l)
+  opening : (w l : ℕ) → general.Allowed x.meaning (Open s w l) → ClockedStep x (Open s w l) (Ok Opened) (opened x s w l)
   opening w l allowed = accepted allowed (general.opens refl refl) (marks.opens (record { clock = refl; last = refl }))
 
   entering : (p : Packet) → general.Allowed x.meaning (Enter s p.length p.ticket) →
       p.mark ≡ mark_after (x.last s) x.clock p.length (weight_in (terms_at x.meaning s)) →
-      ClockedStep x (Enter s p.length p.ticket) (Entered p.mark) (entered x s p)
+      ClockedStep x (Enter s p.length p.ticket) (Ok (Entered p.mark)) (entered x s p)
   entering p allowed mark = accepted allowed (general.enters refl refl) (marks.enters (record { mark_is = mark; clock = refl; last = refl }))
 
   starting : (p : Packet) (rest : List Packet) → general.Allowed x.meaning Start → waiting_in x.meaning s ≡ p ∷ rest →
       ((n : ℕ) (q : Packet) (qs : List Packet) → waiting_in x.meaning n ≡ q ∷ qs → p.mark ≤ q.mark) →
-      ClockedStep x Start (Started s p) (started x s p)
+      ClockedStep x Start (Ok (Started (record { session = s; packet = p }))) (started x s p)
   starting p rest allowed first least =
       accepted allowed (general.starts refl first refl) (marks.starts (record { smallest = least; clock = refl; last = refl }))
 
   finishing : (p : Packet) → general.Allowed x.meaning Finish → x.meaning.in_service ≡ Some (record { session = s; packet = p }) →
-      ClockedStep x Finish (Finished s p) (finished x s p)
+      ClockedStep x Finish (Ok (Finished (record { session = s; packet = p }))) (finished x s p)
   finishing p allowed is = accepted allowed (general.finishes refl is refl) (marks.finishes (record { clock = refl; last = refl }))
 
 run_before : Led New ClockedStep example_before x8

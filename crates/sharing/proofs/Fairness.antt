@@ -2,7 +2,7 @@
 use Rattle.std.proofs.Common.{◌≡◌, ℕ, ◌<◌, [], ◌∷◌, ◌++◌, length, Option, sym, refl, ap, ◌∙◌, subst, arith}
 use Rattle.std.proofs.lemmas.List.{length-append}
 use Rattle.calls.specs.declared.call.Call.{Call}
-use Rattle.calls.specs.declared.call.Answer.{Answer}
+use Rattle.calls.specs.Answers.{Answer}
 use Rattle.sharing.specs.Histories.{History, finished, Backlogged, BackloggedThroughout, Terms, terms_of, latest, opened_by}
 use Rattle.sharing.specs.Meanings.{nothing_open}
 use Rattle.sharing.specs.Clocked.{Clocked, New, ClockedStep}

@@ -7,7 +7,7 @@ use Rattle.calls.specs.Strides.{within, charge}
 use Rattle.calls.specs.declared.call.Packet.{Packet}
 use Rattle.calls.specs.declared.call.Call.{Call}
 use Rattle.calls.specs.declared.call.Call.TheVariants.{Open, Enter, Start}
-use Rattle.calls.specs.declared.call.Answer.{Answer}
+use Rattle.calls.specs.Answers.{Answer}
 use Rattle.calls.specs.declared.refusal.Refusal.{Refusal}
 use Rattle.sharing.specs.Histories.{Terms, packet_of, accepted_by, finished_by, opened_by, latest}
 use Rattle.sharing.specs.Rules.{check, length_refusal}

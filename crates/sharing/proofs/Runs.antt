@@ -1,7 +1,7 @@
 -- Runs, over any kind of state.
 use Rattle.std.proofs.Common.{◌≡◌, ℕ, zero, suc, ◌+◌, ◌<◌, List, [], ◌∷◌, ◌++◌, length, get_or, take, set, refl, le_of_suc-le-suc, not-suc-le-zero, add-one}
 use Rattle.calls.specs.declared.call.Call.{Call}
-use Rattle.calls.specs.declared.call.Answer.{Answer}
+use Rattle.calls.specs.Answers.{Answer}
 use Rattle.sharing.specs.Histories.{History}
 use Rattle.sharing.specs.Runs.{Led, extended}
 

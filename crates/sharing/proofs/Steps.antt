@@ -6,7 +6,7 @@ use Rattle.calls.specs.Strides.{charge}
 use Rattle.calls.specs.declared.call.Packet.{Packet}
 use Rattle.calls.specs.declared.call.Call.{Call}
 use Rattle.calls.specs.declared.call.Call.TheVariants.{Open, Enter, Start}
-use Rattle.calls.specs.declared.call.Answer.{Answer}
+use Rattle.calls.specs.Answers.{Answer}
 use Rattle.calls.specs.declared.refusal.Refusal.{Refusal}
 use Rattle.sharing.specs.Histories.{packet_of, finished_by, weight_in, most_in}
 use Rattle.sharing.specs.Meanings.{Service, Meaning, terms_at, waiting_in, all_waiting, refusal, served_of, in_service_of, after_open, after_enter, after_start, after_finish, General, Allowed}

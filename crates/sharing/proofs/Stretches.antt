@@ -3,7 +3,7 @@ use Rattle.std.proofs.Common.{◌≡◌, ℕ, zero, suc, ◌+◌, ◌*◌, ◌<�
 use Rattle.calls.specs.Strides.{stride}
 use Rattle.calls.specs.declared.call.Packet.{Packet}
 use Rattle.calls.specs.declared.call.Call.{Call}
-use Rattle.calls.specs.declared.call.Answer.{Answer}
+use Rattle.calls.specs.Answers.{Answer}
 use Rattle.sharing.specs.Histories.{Event, History, charges, served, finished, finished_by, weight_in, most_in}
 use Rattle.sharing.specs.Clocked.{Clocked, ClockedStep}
 use Rattle.sharing.proofs.Tags.{Tagged, tag_low, tag_high}

@@ -1,10 +1,10 @@
 -- Self-clocked lines: what every line means, with a clock and the last mark of each session.
-use Rattle.std.specs.Prelude.{◌≡◌, ℕ, ◌≤◌, cond, List, ◌∷◌, None, Option, ◌==◌}
+use Rattle.std.specs.Prelude.{◌≡◌, ℕ, ◌≤◌, cond, List, ◌∷◌, None, Option, ◌==◌, Ok, Err}
 use Rattle.calls.specs.declared.call.Packet.{Packet}
 use Rattle.calls.specs.declared.call.Call.{Call}
 use Rattle.calls.specs.declared.call.Call.TheVariants.{Open, Enter, Start, Finish}
-use Rattle.calls.specs.declared.call.Answer.{Answer}
-use Rattle.calls.specs.declared.call.Answer.TheVariants.{Opened, Entered, Started, Finished, Refused}
+use Rattle.calls.specs.Answers.{Answer}
+use Rattle.calls.specs.declared.call.Reply.TheVariants.{Opened, Entered, Started, Finished}
 use Rattle.calls.specs.declared.refusal.Refusal.{Refusal}
 use Rattle.sharing.specs.Histories.{weight_in}
 use Rattle.sharing.specs.Rules.{mark_after}
@@ -56,11 +56,11 @@ pub record Refuses (x y : Clocked) : Type 0 where
   pub last : y.last ≡ x.last
 
 pub data Marks (x y : Clocked) : Call → Answer → Type 0 where
-  opens : {s weight limit : ℕ} → Opens x y → Marks x y (Open s weight limit) Opened
-  enters : {s length ticket mark : ℕ} → Enters s length mark x y → Marks x y (Enter s length ticket) (Entered mark)
-  starts : {s : ℕ} {packet : Packet} → Starts packet x y → Marks x y Start (Started s packet)
-  finishes : {s : ℕ} {packet : Packet} → Finishes x y → Marks x y Finish (Finished s packet)
-  refuses : {call : Call} {reason : Refusal} → Refuses x y → Marks x y call (Refused reason)
+  opens : {s weight limit : ℕ} → Opens x y → Marks x y (Open s weight limit) (Ok Opened)
+  enters : {s length ticket mark : ℕ} → Enters s length mark x y → Marks x y (Enter s length ticket) (Ok (Entered mark))
+  starts : {s : ℕ} {packet : Packet} → Starts packet x y → Marks x y Start (Ok (Started (record { session = s; packet = packet })))
+  finishes : {s : ℕ} {packet : Packet} → Finishes x y → Marks x y Finish (Ok (Finished (record { session = s; packet = packet })))
+  refuses : {call : Call} {reason : Refusal} → Refuses x y → Marks x y call (Err reason)
 
 -- the self-clocked step: a general step with these marks. A call may be refused for any reason; an accepted one is allowed by the rules
 pub record ClockedStep (x : Clocked) (call : Call) (answer : Answer) (y : Clocked) : Type 0 where

@@ -1,9 +1,9 @@
 -- Examples: a run that reaches both bounds, and figures worked out from the rules.
-use Rattle.std.specs.Prelude.{◌≡◌, ℕ, ◌+◌, ◌*◌, [], ◌∷◌, ◌++◌, Some, None}
+use Rattle.std.specs.Prelude.{◌≡◌, ℕ, ◌+◌, ◌*◌, [], ◌∷◌, ◌++◌, Some, None, Ok}
 use Rattle.calls.specs.Strides.{charge, stride}
 use Rattle.calls.specs.declared.call.Packet.{Packet}
 use Rattle.calls.specs.declared.call.Call.TheVariants.{Open, Enter, Start, Finish}
-use Rattle.calls.specs.declared.call.Answer.TheVariants.{Opened, Entered, Started, Finished}
+use Rattle.calls.specs.declared.call.Reply.TheVariants.{Opened, Entered, Started, Finished}
 use Rattle.calls.specs.declared.refusal.Refusal.TheVariants.{NoSuchSession, BadWeight, BadLength, OutOfReach, ServerBusy}
 use Rattle.sharing.specs.Histories.{History, BackloggedThroughout, served, sent, weight_of}
 use Rattle.sharing.specs.Rules.{mark_after, reach_from}
@@ -28,24 +28,24 @@ step = charge 100 * stride 2
 -- may be, and is marked as the third one of session 0
 abbrev pub example_before : History
 example_before =
-    record { call = Enter 1 100 5; answer = Entered (first_mark + 2 * step) } ∷
-    record { call = Start; answer = Started 0 (packet 200 1 first_mark) } ∷
-    record { call = Enter 0 100 4; answer = Entered (first_mark + 3 * step) } ∷
-    record { call = Enter 0 100 3; answer = Entered (first_mark + 2 * step) } ∷
-    record { call = Enter 0 100 2; answer = Entered (first_mark + step) } ∷
-    record { call = Enter 0 200 1; answer = Entered first_mark } ∷
-    record { call = Open 1 1 100; answer = Opened } ∷
-    record { call = Open 0 2 200; answer = Opened } ∷
+    record { call = Enter 1 100 5; answer = Ok (Entered (first_mark + 2 * step)) } ∷
+    record { call = Start; answer = Ok (Started (record { session = 0; packet = packet 200 1 first_mark })) } ∷
+    record { call = Enter 0 100 4; answer = Ok (Entered (first_mark + 3 * step)) } ∷
+    record { call = Enter 0 100 3; answer = Ok (Entered (first_mark + 2 * step)) } ∷
+    record { call = Enter 0 100 2; answer = Ok (Entered (first_mark + step)) } ∷
+    record { call = Enter 0 200 1; answer = Ok (Entered first_mark) } ∷
+    record { call = Open 1 1 100; answer = Ok Opened } ∷
+    record { call = Open 0 2 200; answer = Ok Opened } ∷
     []
 
 -- session 0 is served three packets and session 1 none: of the two equal marks that of session 0 goes first
 abbrev pub example_later : History
 example_later =
-    record { call = Finish; answer = Finished 0 (packet 100 3 (first_mark + 2 * step)) } ∷
-    record { call = Start; answer = Started 0 (packet 100 3 (first_mark + 2 * step)) } ∷
-    record { call = Finish; answer = Finished 0 (packet 100 2 (first_mark + step)) } ∷
-    record { call = Start; answer = Started 0 (packet 100 2 (first_mark + step)) } ∷
-    record { call = Finish; answer = Finished 0 (packet 200 1 first_mark) } ∷
+    record { call = Finish; answer = Ok (Finished (record { session = 0; packet = packet 100 3 (first_mark + 2 * step) })) } ∷
+    record { call = Start; answer = Ok (Started (record { session = 0; packet = packet 100 3 (first_mark + 2 * step) })) } ∷
+    record { call = Finish; answer = Ok (Finished (record { session = 0; packet = packet 100 2 (first_mark + step) })) } ∷
+    record { call = Start; answer = Ok (Started (record { session = 0; packet = packet 100 2 (first_mark + step) })) } ∷
+    record { call = Finish; answer = Ok (Finished (record { session = 0; packet = packet 200 1 first_mark })) } ∷
     []
 
 pub record BoundsAttained : Type 0 where

@@ -1,13 +1,13 @@
 -- Histories of a line. A moment is the history of all the calls made before it.
-use Rattle.std.specs.Prelude.{ℕ, ◌+◌, ◌<◌, cond, List, [], ◌∷◌, ◌++◌, length, Some, None, Option, ◌==◌}
+use Rattle.std.specs.Prelude.{ℕ, ◌+◌, ◌<◌, cond, List, [], ◌∷◌, ◌++◌, length, Some, None, Option, ◌==◌, Ok, Err}
 use Rattle.calls.specs.Strides.{charge}
 use Rattle.calls.specs.Sums.{sum_below}
 use Rattle.calls.specs.declared.call.Packet.{Packet}
 pub use Rattle.calls.specs.declared.call.Terms.{Terms}
 use Rattle.calls.specs.declared.call.Call.{Call}
 use Rattle.calls.specs.declared.call.Call.TheVariants.{Open, Enter, Start, Finish}
-use Rattle.calls.specs.declared.call.Answer.{Answer}
-use Rattle.calls.specs.declared.call.Answer.TheVariants.{Opened, Entered, Started, Finished, Refused}
+use Rattle.calls.specs.Answers.{Answer}
+use Rattle.calls.specs.declared.call.Reply.TheVariants.{Opened, Entered, Started, Finished}
 
 pub record Event : Type 0 where
   pub call : Call
@@ -31,18 +31,18 @@ accepted_call s Start mark = []
 accepted_call s Finish mark = []
 
 abbrev pub accepted_by : ℕ → Call → Answer → List Packet
-accepted_by s call Opened = []
-accepted_by s call (Entered mark) = accepted_call s call mark
-accepted_by s call (Started n packet) = []
-accepted_by s call (Finished n packet) = []
-accepted_by s call (Refused reason) = []
+accepted_by s call (Ok Opened) = []
+accepted_by s call (Ok (Entered mark)) = accepted_call s call mark
+accepted_by s call (Ok (Started service)) = []
+accepted_by s call (Ok (Finished service)) = []
+accepted_by s call (Err reason) = []
 
 abbrev pub finished_by : ℕ → Answer → List Packet
-finished_by s Opened = []
-finished_by s (Entered mark) = []
-finished_by s (Started n packet) = []
-finished_by s (Finished n packet) = packet_of s n packet
-finished_by s (Refused reason) = []
+finished_by s (Ok Opened) = []
+finished_by s (Ok (Entered mark)) = []
+finished_by s (Ok (Started service)) = []
+finished_by s (Ok (Finished service)) = packet_of s service.session service.packet
+finished_by s (Err reason) = []
 
 -- the packets of session s that were accepted, in the order in which they entered
 abbrev pub accepted : ℕ → History → List Packet
@@ -76,11 +76,11 @@ abbrev pub served : ℕ → History → ℕ
 served s later = charges (finished s later)
 
 abbrev pub sent_by : Answer → ℕ
-sent_by Opened = 0
-sent_by (Entered mark) = 0
-sent_by (Started n packet) = 0
-sent_by (Finished n packet) = charge packet.length
-sent_by (Refused reason) = 0
+sent_by (Ok Opened) = 0
+sent_by (Ok (Entered mark)) = 0
+sent_by (Ok (Started service)) = 0
+sent_by (Ok (Finished service)) = charge service.packet.length
+sent_by (Err reason) = 0
 
 -- the charges of all packets that `later` finished, whatever their session
 abbrev pub sent : History → ℕ
@@ -96,11 +96,11 @@ opened_call s Start = None
 opened_call s Finish = None
 
 abbrev pub opened_by : ℕ → Call → Answer → Option Terms
-opened_by s call Opened = opened_call s call
-opened_by s call (Entered mark) = None
-opened_by s call (Started n packet) = None
-opened_by s call (Finished n packet) = None
-opened_by s call (Refused reason) = None
+opened_by s call (Ok Opened) = opened_call s call
+opened_by s call (Ok (Entered mark)) = None
+opened_by s call (Ok (Started service)) = None
+opened_by s call (Ok (Finished service)) = None
+opened_by s call (Err reason) = None
 
 abbrev pub latest : Option Terms → Option Terms → Option Terms
 latest None old = old

@@ -7,8 +7,8 @@ use Rattle.calls.specs.declared.call.Packet.{Packet}
 pub use Rattle.calls.specs.declared.call.Service.{Service}
 use Rattle.calls.specs.declared.call.Call.{Call}
 use Rattle.calls.specs.declared.call.Call.TheVariants.{Open, Enter, Start, Finish}
-use Rattle.calls.specs.declared.call.Answer.{Answer}
-use Rattle.calls.specs.declared.call.Answer.TheVariants.{Opened, Entered, Started, Finished, Refused}
+use Rattle.calls.specs.Answers.{Answer}
+use Rattle.calls.specs.declared.call.Reply.TheVariants.{Opened, Entered, Started, Finished}
 use Rattle.calls.specs.declared.refusal.Refusal.{Refusal}
 use Rattle.calls.specs.declared.refusal.Refusal.TheVariants.{NoSuchSession, NotOpen}
 use Rattle.sharing.specs.Histories.{Terms, packet_of}
@@ -98,17 +98,17 @@ after_finish m s packet = with_session m s (option_map (credited (charge packet.
 -- ---- the general step, from x to y; `why` is the reason that the rules give to refuse the call, if there is one
 
 pub data General (x : Meaning) (why : Option Refusal) (y : Meaning) : Call → Answer → Type 0 where
-  opens : {s weight limit : ℕ} → why ≡ None → y ≡ after_open x s weight limit → General x why y (Open s weight limit) Opened
+  opens : {s weight limit : ℕ} → why ≡ None → y ≡ after_open x s weight limit → General x why y (Open s weight limit) (Ok Opened)
   enters :
       {s length ticket mark : ℕ} → why ≡ None → y ≡ after_enter x s (record { length = length; ticket = ticket; mark = mark }) →
-      General x why y (Enter s length ticket) (Entered mark)
+      General x why y (Enter s length ticket) (Ok (Entered mark))
   starts :
       {s : ℕ} {first : Packet} {rest : List Packet} → why ≡ None → waiting_in x s ≡ first ∷ rest → y ≡ after_start x s first →
-      General x why y Start (Started s first)
+      General x why y Start (Ok (Started (record { session = s; packet = first })))
   finishes :
       {s : ℕ} {packet : Packet} → why ≡ None → x.in_service ≡ Some (record { session = s; packet = packet }) →
-      y ≡ after_finish x s packet → General x why y Finish (Finished s packet)
-  refuses : {call : Call} {reason : Refusal} → why ≡ Some reason → y ≡ x → General x why y call (Refused reason)
+      y ≡ after_finish x s packet → General x why y Finish (Ok (Finished (record { session = s; packet = packet })))
+  refuses : {call : Call} {reason : Refusal} → why ≡ Some reason → y ≡ x → General x why y call (Err reason)
 
 -- at some room and some reach the rules give no reason to refuse the call
 abbrev pub Allowed : Meaning → Call → Type 0

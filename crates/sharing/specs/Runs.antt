@@ -1,7 +1,7 @@
 -- Runs of a line, over any kind of state.
 use Rattle.std.specs.Prelude.{List, [], ◌∷◌}
 use Rattle.calls.specs.declared.call.Call.{Call}
-use Rattle.calls.specs.declared.call.Answer.{Answer}
+use Rattle.calls.specs.Answers.{Answer}
 use Rattle.sharing.specs.Histories.{History}
 
 -- a run with the history h led from a fresh state to x

@@ -1,10 +1,10 @@
 -- Text that is written into octets from a place on.
-use Rattle.std.specs.Prelude.{◌≡◌, ℕ, ◌+◌, List, [], ◌∷◌, ◌++◌, length, take, drop, codes, decimal}
+use Rattle.std.specs.Prelude.{◌≡◌, ℕ, ◌+◌, List, [], ◌∷◌, ◌++◌, length, take, drop, codes, decimal, Ok, Err}
 use Rattle.calls.specs.declared.call.Call.{Call}
 use Rattle.calls.specs.declared.call.Call.TheVariants.{Open, Enter, Start, Finish}
 use Rattle.calls.specs.Refusals.{refusal_number}
-use Rattle.calls.specs.declared.call.Answer.{Answer}
-use Rattle.calls.specs.declared.call.Answer.TheVariants.{Opened, Entered, Started, Finished, Refused}
+use Rattle.calls.specs.Answers.{Answer}
+use Rattle.calls.specs.declared.call.Reply.TheVariants.{Opened, Entered, Started, Finished}
 use Rattle.trace.specs.declared.fault.LineFault.{LineFault}
 use Rattle.trace.specs.declared.field.Key.{Key}
 use Rattle.trace.specs.declared.field.Key.TheVariants.{Session, Weight, Limit, Length, Ticket}
@@ -64,16 +64,16 @@ session_of Finish = 0
 
 -- what was said to the call of this line
 abbrev pub answer_text : ℕ → Call → Answer → List ℕ
-answer_text at call Opened = numbered_line at ++ (codes " said=opened session=" ++ decimal (session_of call)) ++ codes "\n"
-answer_text at call (Entered mark) =
+answer_text at call (Ok Opened) = numbered_line at ++ (codes " said=opened session=" ++ decimal (session_of call)) ++ codes "\n"
+answer_text at call (Ok (Entered mark)) =
     numbered_line at ++ (codes " said=entered session=" ++ decimal (session_of call)) ++ (codes " mark=" ++ decimal mark) ++ codes "\n"
-answer_text at call (Started s packet) =
-    numbered_line at ++ (codes " said=started session=" ++ decimal s) ++ (codes " ticket=" ++ decimal packet.ticket) ++
-    (codes " mark=" ++ decimal packet.mark) ++ codes "\n"
-answer_text at call (Finished s packet) =
-    numbered_line at ++ (codes " said=finished session=" ++ decimal s) ++ (codes " ticket=" ++ decimal packet.ticket) ++
-    (codes " length=" ++ decimal packet.length) ++ codes "\n"
-answer_text at call (Refused reason) = numbered_line at ++ (codes " said=refused number=" ++ decimal (refusal_number reason)) ++ codes "\n"
+answer_text at call (Ok (Started service)) =
+    numbered_line at ++ (codes " said=started session=" ++ decimal service.session) ++ (codes " ticket=" ++ decimal service.packet.ticket) ++
+    (codes " mark=" ++ decimal service.packet.mark) ++ codes "\n"
+answer_text at call (Ok (Finished service)) =
+    numbered_line at ++ (codes " said=finished session=" ++ decimal service.session) ++ (codes " ticket=" ++ decimal service.packet.ticket) ++
+    (codes " length=" ++ decimal service.packet.length) ++ codes "\n"
+answer_text at call (Err reason) = numbered_line at ++ (codes " said=refused number=" ++ decimal (refusal_number reason)) ++ codes "\n"
 
 -- the line of an open session at the end
 abbrev pub closing_text : ℕ → ℕ → ℕ → ℕ → List ℕ

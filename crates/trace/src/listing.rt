@@ -1,10 +1,10 @@
 // The lines of a listing: what was said to each call, and how each open session stands at the end.
-ghost use Rattle.std.specs.Prelude.{◌≡◌, ◌+◌, ◌≤◌, length};
-ghost use Rattle.calls.specs.declared.call.Answer.TheVariants.{Started, Finished, Refused, Entered, Opened};
+ghost use Rattle.std.specs.Prelude.{◌≡◌, ◌+◌, ◌≤◌, length, Ok, Err};
+ghost use Rattle.calls.specs.declared.call.Reply.TheVariants.{Started, Finished, Entered, Opened};
 ghost use Rattle.trace.specs.Texts.{Wrote, session_of, answer_text, closing_text, numbered_line};
 
 use crate::text::{put, put_field, put_wide_field};
-use calls::call::{Answer, Call, Packet};
+use calls::call::{Answer, Call, Reply, Service};
 use calls::refusal::Refusal;
 
 // How an open session stands.
@@ -38,7 +38,7 @@ fn session_of(call: Call) -> u32
 
 fn put_opened(out: &mut [u8], at: u32, call: Call) -> usize
     requires { 96 ≤ length out.old }
-    ensures wrote { Wrote out.old 0 (answer_text at call Opened) out.new result }
+    ensures wrote { Wrote out.old 0 (answer_text at call (Ok Opened)) out.new result }
     ensures short { result ≤ 96 }
 {
     let place = put_field(out, 0, b"at=", at);
@@ -48,7 +48,7 @@ fn put_opened(out: &mut [u8], at: u32, call: Call) -> usize
 
 fn put_entered(out: &mut [u8], at: u32, call: Call, mark: u64) -> usize
     requires { 96 ≤ length out.old }
-    ensures wrote { Wrote out.old 0 (answer_text at call (Entered mark)) out.new result }
+    ensures wrote { Wrote out.old 0 (answer_text at call (Ok (Entered mark))) out.new result }
     ensures short { result ≤ 96 }
 {
     let place = put_field(out, 0, b"at=", at);
@@ -57,33 +57,33 @@ fn put_entered(out: &mut [u8], at: u32, call: Call, mark: u64) -> usize
     put(out, place, b"\n")
 }
 
-fn put_started(out: &mut [u8], at: u32, call: Call, session: u32, packet: Packet) -> usize
+fn put_started(out: &mut [u8], at: u32, call: Call, service: Service) -> usize
     requires { 96 ≤ length out.old }
-    ensures wrote { Wrote out.old 0 (answer_text at call (Started session packet)) out.new result }
+    ensures wrote { Wrote out.old 0 (answer_text at call (Ok (Started service))) out.new result }
     ensures short { result ≤ 96 }
 {
     let place = put_field(out, 0, b"at=", at);
-    let place = put_field(out, place, b" said=started session=", session);
-    let place = put_field(out, place, b" ticket=", packet.ticket);
-    let place = put_wide_field(out, place, b" mark=", packet.mark);
+    let place = put_field(out, place, b" said=started session=", service.session);
+    let place = put_field(out, place, b" ticket=", service.packet.ticket);
+    let place = put_wide_field(out, place, b" mark=", service.packet.mark);
     put(out, place, b"\n")
 }
 
-fn put_finished(out: &mut [u8], at: u32, call: Call, session: u32, packet: Packet) -> usize
+fn put_finished(out: &mut [u8], at: u32, call: Call, service: Service) -> usize
     requires { 96 ≤ length out.old }
-    ensures wrote { Wrote out.old 0 (answer_text at call (Finished session packet)) out.new result }
+    ensures wrote { Wrote out.old 0 (answer_text at call (Ok (Finished service))) out.new result }
     ensures short { result ≤ 96 }
 {
     let place = put_field(out, 0, b"at=", at);
-    let place = put_field(out, place, b" said=finished session=", session);
-    let place = put_field(out, place, b" ticket=", packet.ticket);
-    let place = put_field(out, place, b" length=", packet.length);
+    let place = put_field(out, place, b" said=finished session=", service.session);
+    let place = put_field(out, place, b" ticket=", service.packet.ticket);
+    let place = put_field(out, place, b" length=", service.packet.length);
     put(out, place, b"\n")
 }
 
 fn put_refused(out: &mut [u8], at: u32, call: Call, reason: Refusal) -> usize
     requires { 96 ≤ length out.old }
-    ensures wrote { Wrote out.old 0 (answer_text at call (Refused reason)) out.new result }
+    ensures wrote { Wrote out.old 0 (answer_text at call (Err reason)) out.new result }
     ensures short { result ≤ 96 }
 {
     let place = put_field(out, 0, b"at=", at);
@@ -97,11 +97,11 @@ pub fn write_answer(at: u32, call: Call, answer: Answer, out: &mut [u8; 96]) -> 
     ensures short { result ≤ 96 }
 {
     match answer {
-        Answer::Opened => put_opened(out, at, call),
-        Answer::Entered { mark } => put_entered(out, at, call, mark),
-        Answer::Started { session, packet } => put_started(out, at, call, session, packet),
-        Answer::Finished { session, packet } => put_finished(out, at, call, session, packet),
-        Answer::Refused(reason) => put_refused(out, at, call, reason),
+        Ok(Reply::Opened) => put_opened(out, at, call),
+        Ok(Reply::Entered { mark }) => put_entered(out, at, call, mark),
+        Ok(Reply::Started(service)) => put_started(out, at, call, service),
+        Ok(Reply::Finished(service)) => put_finished(out, at, call, service),
+        Err(reason) => put_refused(out, at, call, reason),
     }
 }
 

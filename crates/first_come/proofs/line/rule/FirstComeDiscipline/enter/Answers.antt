@@ -1,6 +1,6 @@
-use Rattle.std.proofs.Common.{◌≡◌, None, sym, ap, ◌∙◌}
+use Rattle.std.proofs.Common.{Ok, ◌≡◌, None, sym, ap, ◌∙◌}
 use Rattle.calls.specs.declared.call.Call.TheVariants.{Enter}
-use Rattle.calls.specs.declared.call.Answer.TheVariants.{Entered}
+use Rattle.calls.specs.declared.call.Reply.TheVariants.{Entered}
 use Rattle.sessions.specs.Meanings.{meaning_of}
 use Rattle.sessions.specs.Verdicts.{verdict, settled}
 use Rattle.sessions.proofs.Keeping.{no_reason}
@@ -24,7 +24,7 @@ returns c = λ ok.
     let none : reason ≡ None = no_reason reason (tt {0}) (tt {0}) c.in_ok-check_enter.ensures in
     let packet = c.unmarked-packet.ensures in
     record {
-      answers = ap (λ p. Entered p.mark) packet ∙ sym (ap (λ w. entered (verdict w 0)) none);
+      answers = ap (λ p. Ok (Entered p.mark)) packet ∙ sym (ap (λ w. entered (verdict w 0)) none);
       becomes =
           c.append.ensures ∙ ap (appended x s) packet
           ∙ sym (ap (λ w. settled w x (appended x s (unmarked c.args.length c.args.ticket))) none);
