@@ -1,3 +1,4 @@
 pub mod Adds
 pub mod Steps
 pub mod Drops
+pub mod Scans

@@ -2,13 +2,13 @@
 use Rattle.std.specs.Prelude.{◌≡◌, ℕ, suc, ◌+◌, ◌<◌, ◌≤◌, Bool, true, false, cond, ◌&&◌, List, [], ◌∷◌, ◌++◌, length, is_some, Some, None, Option, ◌==◌, nat_eq, slice_set, refl}
 use Rattle.std.proofs.Common.{sym, ap, ◌∙◌, ⊎_elim, arith}
 use Rattle.std.specs.List.Sorted.{IsPermutation}
-use Rattle.std.proofs.lemmas.List.{get_or-set_same, get_or-set_other, length-set}
-use Rattle.std.proofs.lemmas.List.Sorted.{sum_by-IsPermutation}
+use Rattle.std.proofs.lemmas.List.{get_or-set_same, get_or-set_other, length-set, length_push}
+use Rattle.std.proofs.lemmas.List.Sorted.{sum_by-IsPermutation, length_permutation}
 use Rattle.std.proofs.lemmas.List.Sums.{sum_by-cons, sum_by_push, sum_by-set, get_or-le-sum_by, count_by-le-length}
 use Rattle.std.proofs.lemmas.Bool.{cases_eq, cases_Bool, cond_both, cond-true, cond-false, eqb-true, eq-eqb, ne_eqb, and_parts, and_from}
 use Rattle.ready.specs.Order.{Entry}
 use Rattle.ready.specs.Tags.{Tags, tag_of, entry_count}
-use Rattle.ready.specs.Entries.{entry_at, is_entry, occurrences, tag_is, EachOnce, SameEntries}
+use Rattle.ready.specs.Entries.{entry_at, is_entry, occurrences, tag_is, EachOnce, Lists}
 use Rattle.ready.specs.Leasts.{tag_within}
 
 -- a test as a number
@@ -67,11 +67,8 @@ once_place es xs h t s o =
     (r.0, r.1, λ i. (tag i, session i))
 
 -- the same entries in another order
-pub same_shuffled : (ds es fs : List Entry) → SameEntries ds es → IsPermutation es fs → SameEntries ds fs
-same_shuffled ds es fs h m = λ t s. sum_by-IsPermutation (λ e. bit (is_entry t s e)) es fs m ∙ h t s
-
-pub once_same : (es fs : List Entry) (xs : Tags) → SameEntries es fs → EachOnce es xs → EachOnce fs xs
-once_same es fs xs same h = λ t s. same t s ∙ h t s
+pub once_shuffled : (es fs : List Entry) (xs : Tags) → IsPermutation es fs → EachOnce es xs → EachOnce fs xs
+once_shuffled es fs xs moved h = λ t s. sum_by-IsPermutation (λ e. bit (is_entry t s e)) es fs moved ∙ h t s
 
 -- 1 if the tag o of session s makes the entry of tag u and session r, else 0
 makes : Option ℕ → ℕ → ℕ → ℕ → ℕ
@@ -143,3 +140,20 @@ count_most xs = count_by-le-length is_some xs
 -- where a session has none, not all have one
 pub count_free : (xs : Tags) (s : ℕ) → s < length xs → tag_of xs s ≡ None → entry_count xs < length xs
 count_free xs s l e = omega (arith, count_added xs 0 s l e, count_most (slice_set xs s (Some 0)), length-set xs s (Some 0))
+
+-- a list of the entries, after one entry more and after one entry less, and what moves the entries alone
+pub lists_added : (es fs : List Entry) (xs : Tags) (t s : ℕ) → s < length xs → tag_of xs s ≡ None → Lists es xs → IsPermutation (es ++ (t, s) ∷ []) fs → Lists fs (slice_set xs s (Some t))
+lists_added es fs xs t s l e h moved = record {
+  once = once_shuffled (es ++ (t, s) ∷ []) fs (slice_set xs s (Some t)) moved (once_added es xs t s l e h.once);
+  count = omega (arith, length_permutation (es ++ (t, s) ∷ []) fs moved, length_push es (t, s), count_added xs t s l e, h.count);
+}
+
+pub lists_dropped : (es fs : List Entry) (xs : Tags) (e : Entry) → tag_of xs e.1 ≡ Some e.0 → Lists es xs → IsPermutation es (e ∷ fs) → Lists fs (slice_set xs e.1 None)
+lists_dropped es fs xs e o h moved = record {
+  once = once_dropped es fs xs e o (λ t s. omega (arith, sum_by-cons (λ x. bit (is_entry t s x)) e fs, sum_by-IsPermutation (λ x. bit (is_entry t s x)) es (e ∷ fs) moved)) h.once;
+  count = omega (arith, length_permutation es (e ∷ fs) moved, count_dropped xs e.0 e.1 o, h.count);
+}
+
+-- a session without an entry leaves room for one
+pub lists_room : (es : List Entry) (xs : Tags) (s : ℕ) → s < length xs → tag_of xs s ≡ None → Lists es xs → length es < length xs
+lists_room es xs s l e h = omega (arith, count_free xs s l e, h.count)

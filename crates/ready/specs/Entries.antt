@@ -1,7 +1,7 @@
 -- Lists of entries.
 use Rattle.std.specs.Prelude.{◌≡◌, ℕ, ◌<◌, Bool, cond, ◌&&◌, List, length, Some, None, count_by, Option, ◌==◌, slice_index_or}
 use Rattle.ready.specs.Order.{Entry, Before}
-use Rattle.ready.specs.Tags.{Tags, tag_of}
+use Rattle.ready.specs.Tags.{Tags, tag_of, entry_count}
 
 -- the entry at place k
 abbrev pub entry_at : List Entry → ℕ → Entry
@@ -23,9 +23,10 @@ tag_is (Some u) t = cond (u == t) 1 0
 abbrev pub EachOnce : List Entry → Tags → Type 0
 EachOnce es xs = (t s : ℕ) → occurrences t s es ≡ tag_is (tag_of xs s) t
 
--- the same entries stand in both, each as often
-abbrev pub SameEntries : List Entry → List Entry → Type 0
-SameEntries es fs = (t s : ℕ) → occurrences t s fs ≡ occurrences t s es
+-- es lists the entries of xs, each once, in any order
+pub record Lists (es : List Entry) (xs : Tags) : Type 0 where
+  pub once : EachOnce es xs
+  pub count : length es ≡ entry_count xs
 
 -- of any two the one that stands first comes before the other
 abbrev pub Rising : List Entry → Type 0

@@ -1,5 +1,6 @@
 pub mod Order
 pub mod Tags
+pub mod TagTable
 pub mod Least
 pub mod Entries
 pub mod Heaps

@@ -1,22 +1,18 @@
 -- The tags that a list of entries stands for.
-use Rattle.std.specs.Prelude.{◌≡◌, ℕ, ◌≤◌, false, List, [], ◌∷◌, map, length, replicate, is_some, Some, None, Option, ◌==◌, refl}
+use Rattle.std.specs.Prelude.{◌≡◌, ℕ, ◌≤◌, false, List, [], ◌∷◌, map, length, replicate, is_some, Some, None, Option, slice_get, ◌==◌, refl}
 use Rattle.std.proofs.Common.{sym, ap, subst, ◌∙◌, ⊎_elim, arith}
-use Rattle.std.proofs.lemmas.List.FromFn.{length-map-range_with_len, fill_by_all}
+use Rattle.std.proofs.lemmas.List.FromFn.{fill_by_all}
 use Rattle.std.proofs.lemmas.List.{get_or_past, get_or-replicate}
 use Rattle.std.proofs.lemmas.List.Sums.{sum_by-cons}
 use Rattle.std.proofs.lemmas.Bool.{cases_lt, cases_Bool, eqb-true, cond-true, cond-false}
 use Rattle.ready.specs.Order.{Entry, AtMost}
-use Rattle.ready.specs.Tags.{Tags, tag_of, no_entries, entry_count}
+use Rattle.ready.specs.Tags.{Tags, tag_of, no_entries}
 use Rattle.ready.specs.Least.{IsLeast}
-use Rattle.ready.specs.Entries.{entry_at, is_entry, occurrences, tag_is, EachOnce}
-use Rattle.ready.specs.Heaps.{HeapOrdered, first_of, tag_among, tags_of}
+use Rattle.ready.specs.Entries.{entry_at, is_entry, occurrences, tag_is, EachOnce, Lists}
+use Rattle.ready.specs.Heaps.{HeapOrdered, tag_among, tags_of}
 use Rattle.ready.specs.Leasts.{none_some, same_some}
 use Rattle.ready.specs.Places.{top_least}
 use Rattle.ready.specs.Counts.{bit, and_false, is_itself, tag_is_one, tag_from_one, once_tag, once_place}
-
-pub length_tags : (es : List Entry) → length (tags_of es) ≡ 64
-unfolding tags_of
-length_tags es = length-map-range_with_len (λ s. tag_among s es) 0 64
 
 -- the tag of a session, by the number of its entries
 tag_counted : (es : List Entry) (t s : ℕ) → tag_among s es ≡ Some t → 1 ≤ occurrences t s es
@@ -53,9 +49,9 @@ tags_from_once es xs wide h = sym (fill_by_all (λ s. tag_among s es) xs 64 None
     (λ s l. sym (same_tag (tag_among s es) (tag_of xs s) (λ t e. subst (λ (n : ℕ). 1 ≤ n) (h t s) (tag_counted es t s e)) (λ e t. sym (h t s) ∙ tag_uncounted es t s e))))
 
 -- the first entry of a heap is the least
-pub first_of_least : (es : List Entry) (xs : Tags) → HeapOrdered 1 (length es) es → EachOnce es xs → IsLeast xs (first_of es)
-first_of_least [] xs ordered h = λ s t o. let r = once_place [] xs h t s o in omega arith
-first_of_least (e ∷ es) xs ordered h = (
+pub first_is_least : (es : List Entry) (xs : Tags) → HeapOrdered 1 (length es) es → EachOnce es xs → IsLeast xs (slice_get es 0)
+first_is_least [] xs ordered h = λ s t o. let r = once_place [] xs h t s o in omega arith
+first_is_least (e ∷ es) xs ordered h = (
   once_tag (e ∷ es) xs h 0 (omega arith),
   λ s t o. let r = once_place (e ∷ es) xs h t s o in subst (AtMost e) r.2 (top_least (entry_at (e ∷ es)) (length (e ∷ es)) ordered r.0 r.1),
 )
@@ -68,13 +64,9 @@ pub empty_tags : tags_of [] ≡ no_entries
 unfolding tags_of
 empty_tags = refl
 
-pub empty_once : EachOnce [] (tags_of [])
+pub empty_lists : Lists [] (tags_of [])
 unfolding tags_of
-empty_once = λ t s. ap (λ (o : Option ℕ). tag_is o t) (sym (no_tag s))
-
-pub empty_counted : 0 ≡ entry_count (tags_of [])
-unfolding tags_of
-empty_counted = refl
+empty_lists = record { once = λ t s. ap (λ (o : Option ℕ). tag_is o t) (sym (no_tag s)); count = refl }
 
 pub empty_marked : replicate 64 false ≡ map is_some (tags_of [])
 unfolding tags_of

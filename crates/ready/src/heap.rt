@@ -1,76 +1,94 @@
 // A ready line that keeps its entries in a binary heap.
-ghost use Rattle.std.specs.Prelude.{◌≡◌, ◌≤◌, map, length, take, is_some};
-ghost use Rattle.ready.specs.Tags.{entry_count, no_entries};
-ghost use Rattle.ready.specs.Entries.{EachOnce};
-ghost use Rattle.ready.specs.Heaps.{HeapOrdered, first_of, tags_of};
-ghost use Rattle.ready.specs.Tables.{length_tags};
+ghost use Rattle.std.specs.Prelude.{◌≡◌, ◌<◌, [], ◌∷◌, ◌++◌, false, length, replicate};
+ghost use Rattle.std.specs.List.Sorted.{IsPermutation};
+ghost use Rattle.arrayvec.specs.ArrayVec.{array_vec_len};
+ghost use Rattle.ready.specs.Heaps.{HeapOrdered};
+ghost use Rattle.ready.specs.Tags.{no_entries};
 
 use crate::entry::Entry;
 use crate::line::{ReadyLine, check_free, place_of};
 use crate::moves::{move_down, move_up};
-use crate::table::{drop_first, push};
+use arrayvec::ArrayVec;
 use calls::refusal::Refusal;
+use std::marker::Model;
 
-// The heap is the first `len` entries. For each session `present` says whether it has one.
+// The entries lie in heap order. For each session `present` says whether it has one.
 #[derive(Drop)]
 pub struct Heap {
-    entries: [Entry; 64],
-    len: usize,
+    entries: ArrayVec<Entry, 64>,
     present: [bool; 64],
-    ghost room: { length entries ≡ 64 },
-    ghost within: { len ≤ 64 },
-    ghost ordered: { HeapOrdered 1 len (take len entries) },
-    ghost once: { EachOnce (take len entries) (tags_of (take len entries)) },
-    ghost counted: { len ≡ entry_count (tags_of (take len entries)) },
-    ghost marked: { present ≡ map is_some (tags_of (take len entries)) },
+}
+
+impl Model for Heap {
+    ghost use Rattle.ready.specs.TagTable.{TagTable};
+
+    ghost Value = { TagTable };
+
+    ghost use Rattle.ready.specs.Heaps.{IsReadyHeap, table_of};
+
+    ghost view = { λ heap. table_of heap.entries.items };
+
+    ghost invariant = { λ heap. IsReadyHeap heap.entries.items heap.present };
 }
 
 impl Heap {
     // A line with no entries.
+    #[tactic(auto, using(crate::proofs::Steps::no_tags))]
     pub fn new() -> Heap
-        ensures { tags_of (take result.len result.entries) ≡ no_entries }
+        ensures { result.tags ≡ no_entries }
     {
         Heap {
-            entries: [(0, 0); 64],
-            len: 0,
-            present: [false; 64],
+            entries: ArrayVec::new(),
+            present: none_present(),
         }
     }
 }
 
-// The entry at the top of a heap.
-fn first_of(heap: &[Entry]) -> Option<Entry>
-    ensures { result ≡ first_of heap.now }
+// The table in which no session has an entry.
+fn none_present() -> [bool; 64]
+    ensures { result ≡ replicate 64 false }
 {
-    match heap {
-        [] => None,
-        [first, ..] => Some(*first),
-    }
+    [false; 64]
+}
+
+// Puts an entry into a heap.
+#[tactic(auto, using(crate::proofs::Steps::refill_same))]
+fn put(entries: &mut ArrayVec<Entry, 64>, entry: Entry)
+    requires room { array_vec_len entries.old < 64 }
+    requires ordered { HeapOrdered 1 (array_vec_len entries.old) entries.old.items }
+    ensures len { array_vec_len entries.new ≡ length (entries.old.items ++ entry ∷ []) }
+    ensures grown { IsPermutation (entries.old.items ++ entry ∷ []) entries.new.items }
+    ensures ordered { HeapOrdered 1 (array_vec_len entries.new) entries.new.items }
+{
+    entries.push(entry);
+    move_up(entries);
 }
 
 impl ReadyLine for Heap {
-    ghost tags = { λ x. tags_of (take x.len x.entries) };
+    ghost tags = { λ table. table.tags };
 
-    ghost sessions = { λ x. length_tags (take x.len x.entries) };
+    ghost sessions = { λ table. table.sessions };
 
+    #[tactic(auto, using(crate::proofs::Steps::heap_room, crate::proofs::Steps::heap_added, crate::proofs::Steps::tags_added))]
     fn add(&mut self, tag: u64, session: u32) -> Result<(), Refusal> {
         let place = place_of(session)?;
         check_free(self.present[place])?;
         self.present[place] = true;
-        self.len = push(&mut self.entries, self.len, (tag, session));
-        move_up(&mut self.entries[0..self.len]);
+        put(&mut self.entries, (tag, session));
         Ok(())
     }
 
+    #[tactic(auto, using(crate::proofs::Steps::heap_least))]
     fn least(&self) -> Option<Entry> {
-        first_of(&self.entries[0..self.len])
+        self.entries.first().copied()
     }
 
+    #[tactic(auto, using(crate::specs::Leasts::least_within, crate::proofs::Steps::refill_same, crate::proofs::Steps::heap_some, crate::proofs::Steps::drop_ordered, crate::proofs::Steps::heap_dropped, crate::proofs::Steps::tags_dropped))]
     fn drop_least(&mut self) -> Option<Entry> {
         let (tag, session) = self.least()?;
         self.present[session as usize] = false;
-        self.len = drop_first(&mut self.entries, self.len);
-        move_down(&mut self.entries[0..self.len]);
+        self.entries.swap_remove(0);
+        move_down(&mut self.entries);
         Some((tag, session))
     }
 
@@ -79,6 +97,6 @@ impl ReadyLine for Heap {
     }
 
     fn count(&self) -> u32 {
-        self.len as u32
+        self.entries.len() as u32
     }
 }

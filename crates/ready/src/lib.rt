@@ -7,4 +7,3 @@ pub mod laws;
 pub mod line;
 mod moves;
 pub mod scan;
-mod table;

@@ -1,7 +1,8 @@
 // Moving one entry of a binary heap to its place. The children of place k are the places 2k + 1 and 2k + 2.
 ghost use Rattle.std.specs.Prelude.{◌≡◌, ℕ, ◌+◌, ◌-◌, ◌*◌, ◌<◌, length, if◌then◌else◌};
+ghost use Rattle.std.specs.List.Sorted.{IsPermutation};
 ghost use Rattle.ready.specs.Order.{at_most, AtMost};
-ghost use Rattle.ready.specs.Entries.{entry_at, SameEntries};
+ghost use Rattle.ready.specs.Entries.{entry_at};
 ghost use Rattle.ready.specs.Heaps.{Child, HeapOrdered};
 
 use crate::entry::{Entry, at_most};
@@ -9,7 +10,7 @@ use crate::entry::{Entry, at_most};
 // Puts a heap in order that is in order but for its last entry.
 pub(crate) fn move_up(heap: &mut [Entry])
     requires { HeapOrdered 1 (length heap.old - 1) heap.old }
-    ensures same { SameEntries heap.old heap.new }
+    ensures same { IsPermutation heap.old heap.new }
     ensures ordered { HeapOrdered 1 (length heap.new) heap.new }
 {
     let mut at = heap.len().saturating_sub(1);
@@ -54,7 +55,7 @@ fn first_child(heap: &[Entry], at: usize) -> usize
 // Puts a heap in order that is in order but for its first entry, whose children are at places 1 and 2.
 pub(crate) fn move_down(heap: &mut [Entry])
     requires { HeapOrdered 3 (length heap.old) heap.old }
-    ensures same { SameEntries heap.old heap.new }
+    ensures same { IsPermutation heap.old heap.new }
     ensures ordered { HeapOrdered 1 (length heap.new) heap.new }
 {
     let mut at = 0;

@@ -1,17 +1,25 @@
 // A ready line that looks through a table of the tags.
 ghost use Rattle.std.specs.Prelude.{◌≡◌, length};
-ghost use Rattle.ready.specs.Tags.{earlier, entry_of, no_entries};
-ghost use Rattle.std.proofs.Common.{rules, arith};
+ghost use Rattle.ready.specs.Tags.{entry_of, entry_count, least_of, no_entries};
 
-use crate::entry::{Entry, at_most};
+use crate::entry::Entry;
 use crate::line::{ReadyLine, check_free, place_of};
 use calls::refusal::Refusal;
+use std::marker::Model;
 
 // The table: for each session in turn the tag of its entry, if it has one.
 #[derive(Drop)]
 pub struct Scan {
     tags: [Option<u64>; 64],
     ghost sessions: { length tags ≡ 64 },
+}
+
+impl Model for Scan {
+    ghost use Rattle.ready.specs.TagTable.{TagTable};
+
+    ghost Value = { TagTable };
+
+    ghost view = { λ scan. record { tags = scan.tags; sessions = scan.sessions } };
 }
 
 impl Scan {
@@ -27,29 +35,31 @@ impl Scan {
 fn entry_of(session: u32, tag: Option<u64>) -> Option<Entry>
     ensures { result ≡ entry_of session tag }
 {
-    match tag {
-        Some(tag) => Some((tag, session)),
-        None => None,
-    }
+    tag.map(|tag| (tag, session))
 }
 
-// Of two entries the one that comes first.
-fn earlier(first: Option<Entry>, second: Option<Entry>) -> Option<Entry>
-    ensures { result ≡ earlier first second }
+// The entry that comes first.
+fn least_of(tags: &[Option<u64>]) -> Option<Entry>
+    requires { length tags.now ≡ 64 }
+    ensures { result ≡ least_of tags.now }
 {
-    let Some(a) = first else {
-        return second;
-    };
-    let Some(b) = second else {
-        return first;
-    };
-    if at_most(a, b) { first } else { second }
+    (0..64)
+        .zip(tags)
+        .filter_map(|(session, tag)| entry_of(session, *tag))
+        .min()
+}
+
+// How many sessions have an entry.
+fn entry_count(tags: &[Option<u64>]) -> usize
+    ensures { result ≡ entry_count tags.now }
+{
+    tags.iter().filter(|tag| tag.is_some()).count()
 }
 
 impl ReadyLine for Scan {
-    ghost tags = { λ x. x.tags };
+    ghost tags = { λ table. table.tags };
 
-    ghost sessions = { Prim.search rules };
+    ghost sessions = { λ table. table.sessions };
 
     fn add(&mut self, tag: u64, session: u32) -> Result<(), Refusal> {
         let place = place_of(session)?;
@@ -60,13 +70,10 @@ impl ReadyLine for Scan {
     }
 
     fn least(&self) -> Option<Entry> {
-        let mut best = None;
-        for session in 0..64u32 {
-            best = earlier(best, entry_of(session, self.tags[session as usize]));
-        }
-        best
+        least_of(&self.tags)
     }
 
+    #[tactic(auto, using(crate::specs::Leasts::least_within))]
     fn drop_least(&mut self) -> Option<Entry> {
         let (tag, session) = self.least()?;
         self.tags[session as usize] = None;
@@ -78,12 +85,6 @@ impl ReadyLine for Scan {
     }
 
     fn count(&self) -> u32 {
-        let mut count = 0;
-        for tag in self.tags {
-            if tag.is_some() {
-                count += 1;
-            }
-        }
-        count
+        entry_count(&self.tags) as u32
     }
 }

@@ -1,7 +1,7 @@
 use Rattle.std.proofs.Common.{ℕ, length, sym, subst}
+use Rattle.std.proofs.lemmas.List.Sorted.{IsPermutation-trans}
 use Rattle.ready.specs.Entries.{entry_at}
 use Rattle.ready.specs.Orders.{at_most_other, at_most_through}
-use Rattle.ready.specs.Counts.{same_shuffled}
 use Rattle.ready.specs.Places.{ExceptBelow, below_more, below_done}
 use Rattle.ready.proofs.moves.move_down.Goals as goal
 
@@ -25,7 +25,7 @@ loop-at-preserved c =
     let j = child.result in
     let places = c.swap.ensures.by_index in
     let P : ℕ → Type 0 = λ n. ExceptBelow (entry_at ys) n j in (
-      same_shuffled c.args.heap.now xs ys c.loop-at.invariant.0 c.swap.ensures.permutation,
+      IsPermutation-trans c.args.heap.now xs ys c.loop-at.invariant.0 c.swap.ensures.permutation,
       subst P (sym c.swap.ensures.len)
           (below_more (entry_at xs) (entry_at ys) (length xs) i j child.ensures.child
           (places.0 (0, 0), places.1 (0, 0), λ m a b. places.2 m (0, 0) a b)

@@ -1,10 +1,11 @@
 use Rattle.std.proofs.Common.{◌-◌, length}
-use Rattle.ready.specs.Entries.{entry_at, SameEntries}
+use Rattle.std.specs.List.Sorted.{IsPermutation}
+use Rattle.ready.specs.Entries.{entry_at}
 use Rattle.ready.specs.Places.{ExceptBelow}
 use Rattle.ready.proofs.moves.move_down.Given as goal
 
 abbrev pub invariant-loop-at : goal.invariant-loop-at
-invariant-loop-at l = SameEntries l.initial.heap l.heap × ExceptBelow (entry_at l.heap) (length l.heap) l.at
+invariant-loop-at l = IsPermutation l.initial.heap l.heap × ExceptBelow (entry_at l.heap) (length l.heap) l.at
 
 abbrev pub decreases-loop-at : goal.decreases-loop-at
 decreases-loop-at l = length l.initial.heap - l.at

@@ -1,7 +1,7 @@
 use Rattle.std.proofs.Common.{ℕ, ◌-◌, ◌/◌, length, sym, subst, arith}
+use Rattle.std.proofs.lemmas.List.Sorted.{IsPermutation-trans}
 use Rattle.ready.specs.Entries.{entry_at}
 use Rattle.ready.specs.Orders.{at_most_other}
-use Rattle.ready.specs.Counts.{same_shuffled}
 use Rattle.ready.specs.Places.{ExceptAbove, above_more, above_done}
 use Rattle.ready.proofs.moves.move_up.Goals as goal
 
@@ -20,7 +20,7 @@ loop-at-preserved c =
     let places = c.swap.ensures.by_index in
     let P : ℕ → Type 0 = λ n. ExceptAbove (entry_at ys) n i in (
       omega arith,
-      same_shuffled c.args.heap.now xs ys c.loop-at.invariant.1 c.swap.ensures.permutation,
+      IsPermutation-trans c.args.heap.now xs ys c.loop-at.invariant.1 c.swap.ensures.permutation,
       subst P (sym c.swap.ensures.len)
           (above_more (entry_at xs) (entry_at ys) (length xs) i j (omega arith, omega arith)
           (places.1 (0, 0), places.0 (0, 0), λ m a b. places.2 m (0, 0) b a)
