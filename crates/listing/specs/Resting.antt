@@ -1,8 +1,7 @@
 -- What always holds of the line that a lister has, each part as a fact that a struct can hold.
-use Rattle.std.specs.Prelude.{◌≡◌, ℕ, map, take, None, slice_index}
+use Rattle.std.specs.Prelude.{◌≡◌, ℕ, map, None, slice_index}
 use Rattle.std.specs.Option.{option_to_list}
 use Rattle.ready.specs.Tags.{Tags}
-use Rattle.ready.specs.Heaps.{tags_of}
 use Rattle.ready.specs.declared.heap.Heap.{Heap}
 use Rattle.sharing.specs.Meanings.{Meaning, all_waiting}
 use Rattle.sessions.specs.Meanings.{meaning_of}
@@ -11,7 +10,7 @@ use Rattle.self_clocked.specs.declared.line.SelfClocked.{SelfClocked}
 
 -- what the heap of the line means
 abbrev pub heap_tags : SelfClocked Heap → Tags
-heap_tags x = tags_of (take x.ready.len x.ready.entries)
+heap_tags x = x.ready.tags
 
 abbrev pub line_meaning : SelfClocked Heap → Meaning
 line_meaning x = meaning_of x.sessions

@@ -1,6 +1,5 @@
 // The order in which the waiting packets of a line will start.
-ghost use Rattle.std.specs.Prelude.{◌≡◌, ◌≤◌, ◌++◌, length, take, drop, replicate, IfOk};
-ghost use Rattle.ready.specs.Heaps.{tags_of};
+ghost use Rattle.std.specs.Prelude.{◌≡◌, ◌≤◌, ◌++◌, length, drop, replicate, IfOk};
 ghost use Rattle.sharing.specs.Meanings.{all_waiting};
 ghost use Rattle.sessions.specs.Meanings.{meaning_of};
 ghost use Rattle.sessions.specs.Verdicts.{verdict};
@@ -39,7 +38,7 @@ fn clear_scratch(scratch: &mut [u64])
 
 // A heap with an entry for each session with a waiting packet: the mark of its first one.
 fn ready_firsts(sessions: &Sessions) -> Heap
-    ensures { tags_of (take result.len result.entries) ≡ first_marks (meaning_of sessions.now) }
+    ensures { result.tags ≡ first_marks (meaning_of sessions.now) }
 {
     let mut ready = Heap::new();
     for session in 0..64u32 {
@@ -51,7 +50,7 @@ fn ready_firsts(sessions: &Sessions) -> Heap
 impl SelfClocked<Heap> {
     // Starts and finishes until nothing waits, and writes the tickets in the order of their starts. Answers how many there were.
     fn write_starts(&mut self, tickets: &mut [u32]) -> usize
-        requires sound { Sound (tags_of (take self.old.ready.len self.old.ready.entries)) (state self.old) }
+        requires sound { Sound self.old.ready.tags (state self.old) }
         requires room { all_waiting (meaning_of self.old.sessions) ≤ length tickets.old }
         ensures count { result ≡ all_waiting (meaning_of self.old.sessions) }
         ensures tickets { tickets.new ≡ tickets_of (start_order (state self.old)) ++ drop (all_waiting (meaning_of self.old.sessions)) tickets.old }
@@ -71,7 +70,7 @@ impl<R: ReadyLine + Drop> SelfClocked<R> {
     // A line over a heap with the same sessions. Its clock and last marks are 0: no start or finish goes by them.
     fn copy_over_heap(&self) -> SelfClocked<Heap>
         ensures sessions { result.sessions ≡ self.now.sessions }
-        ensures sound { Sound (tags_of (take result.ready.len result.ready.entries)) (state result) }
+        ensures sound { Sound result.ready.tags (state result) }
     {
         SelfClocked {
             sessions: self.sessions,

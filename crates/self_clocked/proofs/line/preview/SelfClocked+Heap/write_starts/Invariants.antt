@@ -1,5 +1,3 @@
-use Rattle.std.proofs.Common.{take}
-use Rattle.ready.specs.Heaps.{tags_of}
 use Rattle.sharing.specs.Meanings.{all_waiting}
 use Rattle.sessions.specs.Meanings.{meaning_of}
 use Rattle.self_clocked.specs.Exact.{Sound}
@@ -10,7 +8,7 @@ use Rattle.self_clocked.proofs.line.preview.SelfClocked+Heap.write_starts.Given 
 -- the starts so far are the front of the order, and the line is sound
 abbrev pub invariant-loop-service : goal.invariant-loop-service
 invariant-loop-service l =
-    Sound (tags_of (take l.self.ready.len l.self.ready.entries)) (state l.self)
+    Sound l.self.ready.tags (state l.self)
     × Written (state l.initial.self) l.initial.tickets (state l.self) l.tickets l.count
 
 abbrev pub decreases-loop-service : goal.decreases-loop-service
