@@ -1,79 +1,66 @@
 -- Entries in order, the least last: which is the least, and what is left without it.
-use Rattle.std.proofs.Common.{◌≡◌, ℕ, zero, suc, ◌+◌, ◌-◌, ◌<◌, ◌≤◌, ltb, List, length, take, set, Some, None, sum_by, Option, sym, ap, ◌∙◌, subst, arith}
-use Rattle.std.proofs.lemmas.List.{length-take-le, get_or-take}
-use Rattle.std.proofs.lemmas.List.Sums.{sum_by_more}
-use Rattle.std.proofs.lemmas.Bool.{cond_both, ltb-true, ltb-false}
-use Rattle.std.proofs.lemmas.Bool.Decides.{nat_tests}
+use Rattle.std.proofs.Common.{◌≡◌, ℕ, zero, suc, ◌+◌, ◌-◌, ◌<◌, ◌≤◌, List, [], ◌∷◌, ◌++◌, length, set, Some, None, slice_get, refl, sym, ap, ◌∙◌, subst, ⊎_elim, arith}
+use Rattle.std.specs.List.Sorted.{IsPermutation}
+use Rattle.std.proofs.lemmas.List.{get_or_append_left, length_push}
+use Rattle.std.proofs.lemmas.List.Sorted.{IsPermutation-to_front}
+use Rattle.std.proofs.lemmas.Option.{slice_get_past, slice_get-get_or}
+use Rattle.std.proofs.lemmas.Bool.{cases_lt}
 use Rattle.ready.specs.Order.{Entry, AtMost}
-use Rattle.ready.specs.Tags.{Tags, tag_of, least_of}
+use Rattle.ready.specs.Tags.{Tags, least_of}
 use Rattle.ready.specs.Least.{IsLeast}
-use Rattle.ready.specs.Entries.{entry_at, is_entry, EachOnce}
+use Rattle.ready.specs.Entries.{entry_at}
 use Rattle.ready.specs.Orders.{at_most_same, at_most_through}
-use Rattle.ready.specs.Leasts.{equals_least}
-use Rattle.ready.specs.Counts.{bit, once_tag, once_place, once_dropped}
-use Rattle.sorted_ready.specs.Falling.{Falling, last_of}
+use Rattle.ready.specs.Leasts.{equals_least, least_tag, least_within}
+use Rattle.ready.specs.Counts.{once_tag, once_place, lists_dropped}
+use Rattle.sorted_ready.specs.Falling.{Falling, IsSortedLine}
 
 -- equal entries are in the same order
 pub at_most_of : {a b c d : Entry} → a ≡ c → b ≡ d → AtMost c d → AtMost a b
 at_most_of p q h = cc
 
 -- an entry is at most the one that stands n places before it
-at_most_before : (es : List Entry) → Falling es → (n k m : ℕ) → m ≡ k + n → m < length es → AtMost (entry_at es m) (entry_at es k)
-at_most_before es falling zero k m e l = let q : m ≡ k = omega arith in subst (λ (j : ℕ). AtMost (entry_at es m) (entry_at es j)) q (at_most_same (entry_at es m))
-at_most_before es falling (suc n) k m e l =
-    at_most_through (entry_at es m) (entry_at es (k + 1)) (entry_at es k) (at_most_before es falling n (k + 1) m (omega arith) l) (falling k (omega arith))
+at_most_after : (es : List Entry) → Falling es → (n k m : ℕ) → m ≡ k + n → m < length es → AtMost (entry_at es m) (entry_at es k)
+at_most_after es falling zero k m e l = let q : m ≡ k = omega arith in subst (λ (j : ℕ). AtMost (entry_at es m) (entry_at es j)) q (at_most_same (entry_at es m))
+at_most_after es falling (suc n) k m e l =
+    at_most_through (entry_at es m) (entry_at es (k + 1)) (entry_at es k) (at_most_after es falling n (k + 1) m (omega arith) l) (falling k (omega arith))
 
--- of the first n entries of a table
-module _ (table : List Entry) (n : ℕ) (within : n ≤ length table) where
-  long : length (take n table) ≡ n
-  long = length-take-le n table within
+pub at_most_before : (es : List Entry) → Falling es → (k m : ℕ) → k ≤ m → m < length es → AtMost (entry_at es m) (entry_at es k)
+at_most_before es falling k m e l = at_most_after es falling (m - k) k m (omega arith) l
 
-  read : (k : ℕ) → k < n → entry_at (take n table) k ≡ entry_at table k
-  read k l = get_or-take n table k (0, 0) l
+module _ (xs : Tags) (es : List Entry) (line : IsSortedLine xs es) where
+  -- the last is the least
+  last_is_least : IsLeast xs (slice_get es (length es - 1))
+  last_is_least = ⊎_elim
+      (λ (some : 0 < length es).
+      subst (IsLeast xs) (sym (slice_get-get_or es (length es - 1) (0, 0) (omega arith))) (
+        once_tag es xs line.lists.once (length es - 1) (omega arith),
+        λ s t o. let at = once_place es xs line.lists.once t s o in
+            at_most_of refl (sym at.2) (at_most_before es line.falling at.0 (length es - 1) (omega arith) (omega arith)),
+      ))
+      (λ none.
+      subst (IsLeast xs) (sym (slice_get_past es (length es - 1) (omega arith)))
+      (λ s t o. let at = once_place es xs line.lists.once t s o in let below = at.1 in omega arith))
+      (cases_lt 0 (length es))
 
-  module _ (xs : Tags) (once : EachOnce (take n table) xs) where
-    last_tag : 0 < n → tag_of xs (entry_at table (n - 1)).1 ≡ Some (entry_at table (n - 1)).0
-    last_tag l = subst (λ (e : Entry). tag_of xs e.1 ≡ Some e.0) (read (n - 1) (omega arith)) (once_tag (take n table) xs once (n - 1) (omega (arith, long)))
+  pub last_least : slice_get es (length es - 1) ≡ least_of xs
+  last_least = equals_least xs (slice_get es (length es - 1)) last_is_least
 
-    -- the last is the least
-    last_least : Falling (take n table) → IsLeast xs (last_of table n)
-    last_least falling =
-        cond_both (ltb 0 n) (Some (entry_at table (n - 1))) None (IsLeast xs)
-        (λ y. let some = ltb-true 0 n y in (
-          last_tag some,
-          λ s t o. let at = once_place (take n table) xs once t s o in
-              let i : at.0 < n = omega (arith, long) in
-              at_most_of (sym (read (n - 1) (omega arith))) (sym at.2) (at_most_before (take n table) falling (n - 1 - at.0) at.0 (n - 1) (omega arith) (omega (arith, long))),
-        ))
-        (λ no s t o. let none = ltb-false 0 n no in let at = once_place (take n table) xs once t s o in omega (arith, long))
+  -- without the last
+  module _ (t s : ℕ) (is : Some (t, s) ≡ slice_get es (length es - 1)) where
+    least : Some (t, s) ≡ least_of xs
+    least = is ∙ last_least
 
-    pub last_answer : Falling (take n table) → (r : Option Entry) → r ≡ last_of table n → r ≡ least_of xs
-    last_answer falling r is = is ∙ equals_least xs (last_of table n) (last_least falling)
+    pub last_within : s < length xs
+    last_within = least_within xs (t, s) least
 
-    -- where there is a last, it has its tag, and without it the others are left
-    module _ (e : Entry) (is : Some e ≡ last_of table n) where
-      pub some : 0 < n
-      some = grind (arith, nat_tests)
+    module _ (ds : List Entry) (shorter : es ≡ ds ++ (t, s) ∷ []) where
+      falling_left : Falling ds
+      falling_left k l =
+          let alike : (j : ℕ) → j < length ds → entry_at ds j ≡ entry_at es j = λ j low. sym (ap (λ (fs : List Entry). entry_at fs j) shorter ∙ get_or_append_left ds ((t, s) ∷ []) (0, 0) j low) in
+          at_most_of (alike (k + 1) l) (alike k (omega arith)) (line.falling k (omega (arith, ap length shorter, length_push ds (t, s))))
 
-      last_is : e ≡ entry_at table (n - 1)
-      last_is = grind (arith, nat_tests)
-
-      pub tag_of_last : tag_of xs e.1 ≡ Some e.0
-      tag_of_last = subst (λ (x : Entry). tag_of xs x.1 ≡ Some x.0) (sym last_is) (last_tag some)
-
-      one_less : (t s : ℕ) → sum_by (λ x. bit (is_entry t s x)) (take (n - 1) table) + bit (is_entry t s e) ≡ sum_by (λ x. bit (is_entry t s x)) (take n table)
-      one_less t s =
-          let m : n - 1 + 1 ≡ n = omega (arith, some) in
-          ap (λ (x : Entry). sum_by (λ y. bit (is_entry t s y)) (take (n - 1) table) + bit (is_entry t s x)) last_is
-          ∙ sym (sum_by_more (λ x. bit (is_entry t s x)) table (n - 1) (0, 0) (omega (arith, some)))
-          ∙ ap (λ (k : ℕ). sum_by (λ x. bit (is_entry t s x)) (take k table)) m
-
-      pub shorter_once : EachOnce (take (n - 1) table) (set xs e.1 None)
-      shorter_once = once_dropped (take n table) (take (n - 1) table) xs e tag_of_last one_less once
-
--- fewer are in order too
-pub shorter_falling : (table : List Entry) (n : ℕ) → n ≤ length table → Falling (take n table) → Falling (take (n - 1) table)
-shorter_falling table n within falling k l =
-    let shorter = long table (n - 1) (omega arith) in
-    let alike : (j : ℕ) → j < n - 1 → entry_at (take (n - 1) table) j ≡ entry_at (take n table) j = λ j low. read table (n - 1) (omega arith) j low ∙ sym (read table n within j (omega arith)) in
-    at_most_of (alike (k + 1) (omega arith)) (alike k (omega arith)) (falling k (omega (arith, long table n within)))
+      pub line_dropped : IsSortedLine (set xs s None) ds
+      line_dropped = record {
+        lists = lists_dropped es ds xs (t, s) (least_tag xs (t, s) least) line.lists (subst (λ (fs : List Entry). IsPermutation fs ((t, s) ∷ ds)) (sym shorter) (IsPermutation-to_front ds (t, s)));
+        falling = falling_left;
+      }

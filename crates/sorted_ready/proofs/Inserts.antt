@@ -1,23 +1,24 @@
 -- What a new entry among others leaves.
-use Rattle.std.proofs.Common.{◌≡◌, ℕ, ◌+◌, ◌-◌, ◌<◌, ◌≤◌, cond, List, [], ◌∷◌, ◌++◌, length, take, drop, set, sym, ap, ◌∙◌, ⊎_elim, arith}
-use Rattle.std.specs.List.{insert, between}
-use Rattle.std.proofs.lemmas.Bool.{cases_lt, cases_eq}
-use Rattle.std.proofs.lemmas.List.Sums.{sum_by-append, sum_by_push, sum_by-cons, sum_by-take-drop}
-use borrow.Rule.Slice.PartMut.{put_mid}
-use Rattle.std.proofs.lemmas.List.{take_more_set, drop-append-le, length-take-le, drop_at, take_at, length_push, length-drop, length-set, take-set-le, take-take}
-use Rattle.std.proofs.lemmas.Slice.{between_is, take-put_mid}
+use Rattle.std.proofs.Common.{◌≡◌, ℕ, ◌+◌, ◌-◌, ◌<◌, ◌≤◌, Bool, true, false, get_or, not, List, [], ◌∷◌, ◌++◌, length, set, is_some, Some, None, Ok, sym, subst, ap, ◌∙◌, ⊎_elim, arith}
+use Rattle.std.specs.List.{insert}
+use Rattle.std.specs.List.Sorted.{IsPermutation, IsPartitionedBy, IsPartitionPoint}
+use Rattle.std.proofs.lemmas.Bool.{cases_lt, cases_eq, not-true, not-false, not_from_false, false_from_ne_true}
+use Rattle.std.proofs.lemmas.List.{get_or_default}
+use Rattle.std.proofs.lemmas.List.Sorted.{IsPermutation-insert, IsPermutation-to_front, IsPermutation-trans}
 use Rattle.std.proofs.lemmas.List.Edits.{length-insert, get_or-insert_below, get_or-insert_at, get_or-insert_above}
-use Rattle.ready.specs.Order.{Entry, AtMost, Before}
-use Rattle.ready.specs.Entries.{entry_at, is_entry, SameEntries}
-use Rattle.ready.specs.Orders.{at_most_other}
-use Rattle.sorted_ready.specs.Falling.{Falling}
-use Rattle.sorted_ready.proofs.Falls.{at_most_of}
+use Rattle.ready.specs.Order.{Entry, at_most, AtMost, Before}
+use Rattle.ready.specs.Tags.{Tags, tag_of, no_entries, place_answer, free_answer, added}
+use Rattle.ready.specs.Entries.{entry_at, Lists}
+use Rattle.ready.specs.Orders.{at_most_other, at_most_through}
+use Rattle.ready.specs.Counts.{bit, lists_added, lists_room}
+use Rattle.ready.specs.Tables.{empty_tags, empty_lists}
+use Rattle.ready.proofs.Adds.{place_is, is_free, add_leaves}
+use Rattle.sorted_ready.specs.Falling.{Falling, IsSortedLine}
+use Rattle.sorted_ready.proofs.Falls.{at_most_of, at_most_before}
 
 -- the entries are those from before, and the new one
-pub inserted_same : (es : List Entry) (i : ℕ) (e : Entry) → SameEntries (es ++ e ∷ []) (insert es i e)
-inserted_same es i e t s =
-    let n : Entry → ℕ = λ x. cond (is_entry t s x) 1 0 in
-    omega (arith, sum_by-append n (take i es) (e ∷ drop i es), sum_by-cons n e (drop i es), sum_by-take-drop n es i, sum_by_push n es e)
+pub grown_by : (es : List Entry) (i : ℕ) (e : Entry) → IsPermutation (es ++ e ∷ []) (insert es i e)
+grown_by es i e = IsPermutation-trans (es ++ e ∷ []) (e ∷ es) (insert es i e) (IsPermutation-to_front es e) (IsPermutation-insert es i e)
 
 module _ (es : List Entry) (i : ℕ) (e : Entry) (within : i ≤ length es) where
   read_below : (k : ℕ) → k < i → entry_at (insert es i e) k ≡ entry_at es k
@@ -44,21 +45,45 @@ module _ (es : List Entry) (i : ℕ) (e : Entry) (within : i ≤ length es) wher
       (cases_eq k i))
       (cases_lt k i)
 
--- a list whose last entry is taken to the front
-turned : (es : List Entry) (e : Entry) (n : ℕ) → n ≡ length es → drop n (es ++ e ∷ []) ++ take n (es ++ e ∷ []) ≡ e ∷ es
-turned es e n q = rw (drop_at es (e ∷ []) n (sym q), take_at es (e ∷ []) n (sym q))
+-- one entry more
+module _ (xs : Tags) (es : List Entry) (line : IsSortedLine xs es) (wide : length xs ≡ 64) (t s p : ℕ) (at : Ok p ≡ place_answer s) (b : Bool) (is : b ≡ is_some (tag_of xs p)) (ok : Ok tt ≡ free_answer b) where
+  here : p ≡ s
+  here = (place_is s p at).0
 
--- what is left where the last of a part is taken to the front of the part
-module _ (es : List Entry) (n i : ℕ) (e : Entry) (within : i ≤ n) (free : n < length es) where
-  part : between i (n + 1) (set es n e) ≡ drop i (take n es) ++ e ∷ []
-  part = between_is (set es n e) i (n + 1) ∙ ap (drop i) (take_more_set es n e free) ∙ drop-append-le i (take n es) (e ∷ []) (omega (arith, length-take-le n es (omega arith)))
+  below : s < length xs
+  below = let place = place_is s p at in omega arith
 
-  pub put_in : (p r : List Entry) → p ≡ between i (n + 1) (set es n e) → r ≡ drop (length p - 1) p ++ take (length p - 1) p →
-      take (n + 1) (put_mid i (n + 1 - i) (set es n e) r) ≡ insert (take n es) i e
-  put_in p r at is =
-      let back : List Entry = drop i (take n es) in
-      let was : p ≡ back ++ e ∷ [] = at ∙ part in
-      let long : length p ≡ length back + 1 = ap length was ∙ length_push back e in
-      let turn : r ≡ e ∷ back = is ∙ ap (λ (x : List Entry). drop (length p - 1) x ++ take (length p - 1) x) was ∙ turned back e (length p - 1) (omega arith) in
-      take-put_mid i (n + 1 - i) (set es n e) r (n + 1) (omega (arith, ap length turn, length-drop i (take n es), length-take-le n es (omega arith))) (omega (arith, length-set es n e))
-      ∙ rw (take-set-le i es n e within, take-take i n es within) (ap (λ (x : List Entry). take i es ++ x) turn)
+  free : tag_of xs s ≡ None
+  free = ap (tag_of xs) (sym here) ∙ is_free (tag_of xs p) b is ok
+
+  pub line_room : length es < 64
+  line_room = omega (arith, lists_room es xs s below free line.lists)
+
+  pub tags_added : set xs p (Some t) ≡ added xs t s
+  tags_added = ap (λ (n : ℕ). set xs n (Some t)) here ∙ sym (add_leaves xs t s (place_is s p at).1 free)
+
+  pub line_added : (ys : List Entry) → length ys ≡ length (es ++ (t, s) ∷ []) → IsPermutation (es ++ (t, s) ∷ []) ys → Falling ys → IsSortedLine (set xs p (Some t)) ys
+  line_added ys long moved falling = record {
+    lists = subst (λ (n : ℕ). Lists ys (set xs n (Some t))) (sym here) (lists_added es ys xs t s below free line.lists moved);
+    falling = falling;
+  }
+
+-- no entries
+pub no_line : (es : List Entry) → es ≡ [] → IsSortedLine no_entries es
+no_line es none = subst (IsSortedLine no_entries) (sym none) (record { lists = subst (Lists []) empty_tags empty_lists; falling = λ k l. absurd (omega arith) })
+
+-- the entries that come after the new one stand in front
+pub parted : (es : List Entry) (e : Entry) → Falling es → IsPartitionedBy (λ x. not (at_most x e)) es
+parted es e falling i j d le l h = not_from_false (at_most (get_or es i d) e) (false_from_ne_true (at_most (get_or es i d) e) (λ y.
+    let front : AtMost (entry_at es i) e = ap (λ (x : Entry). at_most x e) (get_or_default es i (0, 0) d (omega arith)) ∙ y in
+    let back = at_most_through (entry_at es j) (entry_at es i) e (at_most_before es falling i j le l) front in
+    let none : at_most (entry_at es j) e ≡ false = ap (λ (x : Entry). at_most x e) (get_or_default es j (0, 0) d l) ∙ not-true (at_most (get_or es j d) e) h in
+    absurd (omega (arith, ap bit (sym back ∙ none)))))
+
+-- and what does not, behind it
+module _ (es : List Entry) (e : Entry) (i : ℕ) (point : IsPartitionPoint (λ x. not (at_most x e) ≡ true) (λ x. not (at_most x e) ≡ false) es i) where
+  pub placed_before : (k : ℕ) → k < i → Before e (entry_at es k)
+  placed_before k l = not-true (at_most (entry_at es k) e) (point.0 k (0, 0) (omega arith) l)
+
+  pub placed_after : i < length es → AtMost (entry_at es i) e
+  placed_after l = not-false (at_most (entry_at es i) e) (point.1 i (0, 0) (omega arith) l)

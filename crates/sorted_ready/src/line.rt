@@ -1,27 +1,32 @@
 // A ready line over a sorted array.
-ghost use Rattle.std.specs.Prelude.{◌≡◌, ◌≤◌, length, take};
-ghost use Rattle.ready.specs.Tags.{no_entries, entry_count};
-ghost use Rattle.ready.specs.Entries.{EachOnce};
-ghost use Rattle.sorted_ready.specs.Falling.{Falling, last_of};
-ghost use Rattle.std.proofs.Common.{rules, arith};
+ghost use Rattle.std.specs.Prelude.{◌≡◌, length};
+ghost use Rattle.ready.specs.Tags.{no_entries};
 
 use crate::order::insert;
+use arrayvec::ArrayVec;
 use calls::refusal::Refusal;
 use ready::entry::Entry;
 use ready::line::{ReadyLine, check_free, place_of};
+use std::marker::Model;
 
-// The tag of each session that has an entry, and the same entries once more, the least last, at the front of a table.
+// The tag of each session that has an entry, and the same entries once more, the least last.
 #[derive(Drop)]
 pub struct SortedLine {
     tags: [Option<u64>; 64],
-    entries: [Entry; 64],
-    len: usize,
+    entries: ArrayVec<Entry, 64>,
     ghost sessions: { length tags ≡ 64 },
-    ghost places: { length entries ≡ 64 },
-    ghost fits: { len ≤ 64 },
-    ghost counted: { len ≡ entry_count tags },
-    ghost once: { EachOnce (take len entries) tags },
-    ghost falling: { Falling (take len entries) },
+}
+
+impl Model for SortedLine {
+    ghost use Rattle.ready.specs.TagTable.{TagTable};
+
+    ghost Value = { TagTable };
+
+    ghost use Rattle.sorted_ready.specs.Falling.{IsSortedLine};
+
+    ghost view = { λ line. record { tags = line.tags; sessions = line.sessions } };
+
+    ghost invariant = { λ line. IsSortedLine line.tags line.entries.items };
 }
 
 impl SortedLine {
@@ -31,44 +36,34 @@ impl SortedLine {
     {
         SortedLine {
             tags: [None; 64],
-            entries: [(0, 0); 64],
-            len: 0,
+            entries: ArrayVec::new(),
         }
-    }
-
-    // The entry that stands last.
-    fn last(&self) -> Option<Entry>
-        ensures { result ≡ last_of self.now.entries self.now.len }
-    {
-        if self.len == 0 {
-            return None;
-        }
-        Some(self.entries[self.len - 1])
     }
 }
 
 impl ReadyLine for SortedLine {
-    ghost tags = { λ line. line.tags };
+    ghost tags = { λ table. table.tags };
 
-    ghost sessions = { Prim.search rules };
+    ghost sessions = { λ table. table.sessions };
 
+    #[tactic(auto, using(crate::proofs::Inserts::line_room, crate::proofs::Inserts::line_added, crate::proofs::Inserts::tags_added))]
     fn add(&mut self, tag: u64, session: u32) -> Result<(), Refusal> {
         let place = place_of(session)?;
         let current = self.tags[place];
         check_free(current.is_some())?;
-        insert(&mut self.entries, self.len, (tag, session));
-        self.len += 1;
+        insert(&mut self.entries, (tag, session));
         self.tags[place] = Some(tag);
         Ok(())
     }
 
+    #[tactic(auto, using(crate::proofs::Falls::last_least))]
     fn least(&self) -> Option<Entry> {
-        self.last()
+        self.entries.last().copied()
     }
 
+    #[tactic(auto, using(crate::proofs::Falls::last_least, crate::proofs::Falls::last_within, crate::proofs::Falls::line_dropped))]
     fn drop_least(&mut self) -> Option<Entry> {
-        let (tag, session) = self.last()?;
-        self.len -= 1;
+        let (tag, session) = self.entries.pop()?;
         self.tags[session as usize] = None;
         Some((tag, session))
     }
@@ -78,6 +73,6 @@ impl ReadyLine for SortedLine {
     }
 
     fn count(&self) -> u32 {
-        self.len as u32
+        self.entries.len() as u32
     }
 }

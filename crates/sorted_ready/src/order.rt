@@ -1,42 +1,40 @@
 // Entries in order, the least last: a new one is put in where it belongs.
-ghost use Rattle.std.specs.Prelude.{◌≡◌, ℕ, ◌+◌, ◌<◌, ◌≤◌, [], ◌∷◌, ◌++◌, length, take};
-ghost use Rattle.std.specs.List.{insert};
-ghost use Rattle.ready.specs.Order.{AtMost, Before};
-ghost use Rattle.ready.specs.Entries.{entry_at, SameEntries};
+ghost use Rattle.std.specs.Prelude.{◌≡◌, ℕ, ◌<◌, ◌≤◌, [], ◌∷◌, ◌++◌, not, length};
+ghost use Rattle.std.specs.List.Sorted.{IsPermutation};
+ghost use Rattle.arrayvec.specs.ArrayVec.{array_vec_len};
+ghost use Rattle.ready.specs.Order.{at_most, AtMost, Before};
+ghost use Rattle.ready.specs.Entries.{entry_at};
 ghost use Rattle.sorted_ready.specs.Falling.{Falling};
 
+use arrayvec::ArrayVec;
 use ready::entry::{Entry, at_most};
 
+// Whether the first comes after the second.
+fn is_after(first: Entry, second: Entry) -> bool
+    ensures { result ≡ not (at_most first second) }
+{
+    !at_most(first, second)
+}
+
 // The place of the first entry that is at most the new one: there the new one belongs.
-fn place_among(entries: &[Entry], new: Entry) -> usize
-    ensures within { result ≤ length entries.now }
-    ensures before { (k : ℕ) → k < result → Before new (entry_at entries.now k) }
-    ensures after { result < length entries.now → AtMost (entry_at entries.now result) new }
+fn place_among(entries: &ArrayVec<Entry, 64>, new: Entry) -> usize
+    requires { Falling entries.now.items }
+    ensures within { result ≤ array_vec_len entries.now }
+    ensures before { (k : ℕ) → k < result → Before new (entry_at entries.now.items k) }
+    ensures after { result < array_vec_len entries.now → AtMost (entry_at entries.now.items result) new }
 {
-    for (place, entry) in entries.iter().enumerate() {
-        if at_most(*entry, new) {
-            return place;
-        }
-    }
-    entries.len()
+    entries.partition_point(|entry| is_after(*entry, new))
 }
 
-// Puts the new entry at a place among the first `len`, and moves those from there on by one.
-fn insert_at(entries: &mut [Entry; 64], len: usize, place: usize, new: Entry)
-    requires { (place ≤ len) × (len < 64) }
-    ensures { take (len + 1) entries.new ≡ insert (take len entries.old) place new }
+// Puts the new entry in where it belongs.
+#[tactic(auto, using(crate::proofs::Inserts::grown_by, crate::proofs::Inserts::inserted_falling))]
+pub(crate) fn insert(entries: &mut ArrayVec<Entry, 64>, new: Entry)
+    requires room { array_vec_len entries.old < 64 }
+    requires falling { Falling entries.old.items }
+    ensures len { array_vec_len entries.new ≡ length (entries.old.items ++ new ∷ []) }
+    ensures grown { IsPermutation (entries.old.items ++ new ∷ []) entries.new.items }
+    ensures falling { Falling entries.new.items }
 {
-    entries[len] = new;
-    entries[place..len + 1].rotate_right(1);
-}
-
-// Puts the new entry in where it belongs among the first `len`.
-pub(crate) fn insert(entries: &mut [Entry; 64], len: usize, new: Entry)
-    requires { len < 64 }
-    ensures long { length entries.new ≡ 64 }
-    ensures same { SameEntries (take len entries.old ++ new ∷ []) (take (len + 1) entries.new) }
-    ensures falling { Falling (take len entries.old) → Falling (take (len + 1) entries.new) }
-{
-    let place = place_among(&entries[0..len], new);
-    insert_at(entries, len, place, new);
+    let place = place_among(entries, new);
+    entries.insert(place, new);
 }

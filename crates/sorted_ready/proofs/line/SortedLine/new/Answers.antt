@@ -1,14 +1,5 @@
-use Rattle.std.proofs.Common.{[], refl, subst, lit≤}
-use Rattle.ready.specs.Entries.{EachOnce}
-use Rattle.ready.specs.Tables.{empty_tags, empty_once}
+use Rattle.sorted_ready.proofs.Inserts.{no_line}
 use Rattle.sorted_ready.proofs.line.SortedLine.new.Goals as goal
 
-pub invariant_of-result : goal.invariant_of-result
-invariant_of-result c = record {
-  sessions = refl;
-  places = refl;
-  fits = lit≤ tt;
-  counted = refl;
-  once = subst (EachOnce []) empty_tags empty_once;
-  falling = λ k l. refl;
-}
+pub invariant_of-result-2 : goal.invariant_of-result-2
+invariant_of-result-2 c = no_line _ c.new.ensures
