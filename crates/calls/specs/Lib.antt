@@ -1,4 +1,5 @@
 pub mod Answers
+pub mod Places
 pub mod Refusals
 pub mod Strides
 pub mod Sums

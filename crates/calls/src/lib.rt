@@ -3,4 +3,5 @@
 
 pub mod call;
 pub mod refusal;
+pub mod session;
 pub mod stride;

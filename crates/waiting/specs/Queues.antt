@@ -54,8 +54,12 @@ count_answer q s = of_session s (length (q s))
 abbrev pub lengths_answer : (ℕ → List Packet) → ℕ → Result ℕ Refusal
 lengths_answer q s = of_session s (total_length (q s))
 
+-- there are 256 places
+abbrev pub room_answer : ℕ → Result (Unit {0}) Refusal
+room_answer waiting = cond (nat_lt waiting 256) (Ok tt) (Err Full)
+
 abbrev pub put_answer : (ℕ → List Packet) → ℕ → Result (Unit {0}) Refusal
-put_answer q s = cond (nat_lt s 64) (cond (nat_lt (total q) 256) (Ok tt) (Err Full)) (Err NoSuchSession)
+put_answer q s = cond (nat_lt s 64) (room_answer (total q)) (Err NoSuchSession)
 
 -- ---- the queues after a call
 abbrev pub after_put : (ℕ → List Packet) → ℕ → Packet → Result (Unit {0}) Refusal → ℕ → List Packet

@@ -3,11 +3,9 @@ ghost use Rattle.std.specs.Prelude.{◌≡◌, ◌<◌};
 ghost use Rattle.waiting.specs.Steps.{Fresh, Appendable, Removable, stored, freed, linked, appended, removed};
 
 use crate::place::{Place, Queue};
+use crate::table::PLACES;
 use calls::call::Packet;
-
-pub(crate) const PLACES: u32 = 256;
-
-const SESSIONS: u32 = 64;
+use calls::session::SESSIONS;
 
 // The free places are a chain of 256 - `used` places, of which `free` is the first.
 #[derive(Clone, Copy)]

@@ -7,6 +7,9 @@ use crate::chains::Chains;
 pub mod changes;
 pub mod questions;
 
+// How many packets can wait, of all sessions together.
+pub const PLACES: u32 = 256;
+
 // A queue of packets for each session, in order of arrival.
 #[derive(Clone, Copy)]
 pub struct Waiting {

@@ -1,5 +1,5 @@
 // The calls that make a table and change it.
-ghost use Rattle.std.specs.Prelude.{◌≡◌, None, Ok, Err};
+ghost use Rattle.std.specs.Prelude.{◌≡◌, IfOk, IfNone, OnErr};
 ghost use Rattle.waiting.specs.Queues.{queue, no_packets, put_answer, first_answer, after_put, after_take};
 
 use crate::chains::Chains;
@@ -21,9 +21,9 @@ impl Waiting {
     pub fn put_last(&mut self, session: u32, packet: Packet) -> Result<(), Refusal>
         ensures answer { result ≡ put_answer (queue self.old) session }
         ensures queues { queue self.new ≡ after_put (queue self.old) session packet result }
-        ensures refused { (e : Refusal) → result ≡ Err e → self.new ≡ self.old }
+        ensures refused { OnErr result (self.new ≡ self.old) }
     {
-        self.check_room(session)?;
+        self.check_put(session)?;
         self.chains.append(session, packet);
         Ok(())
     }
@@ -32,8 +32,8 @@ impl Waiting {
     pub fn take_first(&mut self, session: u32) -> Result<Option<Packet>, Refusal>
         ensures answer { result ≡ first_answer (queue self.old) session }
         ensures queues { queue self.new ≡ after_take (queue self.old) session }
-        ensures refused { (e : Refusal) → result ≡ Err e → self.new ≡ self.old }
-        ensures none { result ≡ Ok None → self.new ≡ self.old }
+        ensures refused { OnErr result (self.new ≡ self.old) }
+        ensures none { IfOk result (λ first. IfNone first (self.new ≡ self.old)) }
     {
         let Some(packet) = self.first(session)? else {
             return Ok(None);

@@ -1,31 +1,21 @@
 // What can be asked of the table. Nothing here changes it.
 ghost use Rattle.std.specs.Prelude.{◌≡◌, ◌≤◌};
-ghost use Rattle.waiting.specs.Queues.{queue, all_waiting, of_session, first_answer, count_answer, lengths_answer, put_answer};
+ghost use Rattle.waiting.specs.Queues.{queue, all_waiting, first_answer, count_answer, lengths_answer, room_answer, put_answer};
 ghost use Rattle.waiting.specs.Headers.{HeaderAnswer};
 
-use crate::chains::PLACES;
 use crate::place::Queue;
-use crate::table::Waiting;
+use crate::table::{PLACES, Waiting};
 use calls::call::Packet;
 use calls::refusal::Refusal;
-
-// There is no session above 63.
-fn check_session(session: u32) -> Result<(), Refusal>
-    ensures { result ≡ of_session session tt }
-{
-    if session > 63 {
-        return Err(Refusal::NoSuchSession);
-    }
-    Ok(())
-}
+use calls::session::place_of;
 
 impl Waiting {
     // The header of the session's queue.
     fn header(&self, session: u32) -> Result<Queue, Refusal>
         ensures { HeaderAnswer self.now session result }
     {
-        check_session(session)?;
-        Ok(self.chains.queues[session as usize])
+        let index = place_of(session)?;
+        Ok(self.chains.queues[index])
     }
 
     // The session's first packet, if it has any.
@@ -63,14 +53,21 @@ impl Waiting {
         self.chains.used
     }
 
-    // Whether the session can have one packet more.
-    pub(crate) fn check_room(&self, session: u32) -> Result<(), Refusal>
-        ensures { result ≡ put_answer (queue self.now) session }
+    // Refused while every place is taken.
+    pub fn check_room(&self) -> Result<(), Refusal>
+        ensures { result ≡ room_answer (all_waiting self.now) }
     {
-        check_session(session)?;
         if self.total() >= PLACES {
             return Err(Refusal::Full);
         }
         Ok(())
+    }
+
+    // Whether the session can have one packet more. Refused: no such session, then no place.
+    pub(crate) fn check_put(&self, session: u32) -> Result<(), Refusal>
+        ensures { result ≡ put_answer (queue self.now) session }
+    {
+        place_of(session)?;
+        self.check_room()
     }
 }
