@@ -9,6 +9,7 @@ use calls::refusal::Refusal;
 
 impl Waiting {
     // A table in which no packet waits.
+    #[tactic(auto, using(crate::proofs::Making::fresh_keeps, crate::proofs::Making::fresh_queue), unfolding(crate::specs::Queues::queue))]
     pub fn new() -> Waiting
         ensures { queue result ≡ no_packets }
     {
@@ -18,6 +19,7 @@ impl Waiting {
     }
 
     // Puts the packet last in the session's queue. Refused: no such session, then no place.
+    #[tactic(auto, using(crate::proofs::Stepping::append_queues))]
     pub fn put_last(&mut self, session: u32, packet: Packet) -> Result<(), Refusal>
         ensures answer { result ≡ put_answer (queue self.old) session }
         ensures queues { queue self.new ≡ after_put (queue self.old) session packet result }
@@ -29,6 +31,7 @@ impl Waiting {
     }
 
     // Takes the first packet out of the session's queue, if there is one. Its place is free at once.
+    #[tactic(auto, using(crate::proofs::Stepping::remove_queues, crate::proofs::Using::take_refused))]
     pub fn take_first(&mut self, session: u32) -> Result<Option<Packet>, Refusal>
         ensures answer { result ≡ first_answer (queue self.old) session }
         ensures queues { queue self.new ≡ after_take (queue self.old) session }

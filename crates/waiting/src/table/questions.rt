@@ -11,6 +11,7 @@ use calls::session::place_of;
 
 impl Waiting {
     // The header of the session's queue.
+    #[tactic(auto, using(crate::proofs::Reading::describes))]
     fn header(&self, session: u32) -> Result<Queue, Refusal>
         ensures { HeaderAnswer self.now session result }
     {
@@ -46,6 +47,7 @@ impl Waiting {
     }
 
     // How many packets all sessions have together: at most 256.
+    #[tactic(auto, using(crate::proofs::Reading::used_is_all_waiting))]
     pub fn total(&self) -> u32
         ensures all { result ≡ all_waiting self.now }
         ensures most { result ≤ 256 }

@@ -1,5 +1,5 @@
 use Rattle.std.proofs.Common.{arith, rules}
-use Rattle.waiting.proofs.Stepping.{can_append, append_keeps, append_queues}
+use Rattle.waiting.proofs.Stepping.{can_append, append_keeps}
 use Rattle.waiting.proofs.table.Waiting.put_last.Goals as goal
 
 pub append-requires : goal.append-requires
@@ -9,6 +9,3 @@ pub invariant_of-self : goal.invariant_of-self
 invariant_of-self c =
     append_keeps c.args.self.now c.args.session c.args.packet c.in_ok-check_put.ensures (omega arith) _
     c.append.ensures
-
-pub returns : goal.returns
-returns c = search (rules, append_queues, c.in_ok-check_put.ensures)
