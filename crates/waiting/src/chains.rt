@@ -18,6 +18,7 @@ pub(crate) struct Chains {
 
 impl Chains {
     // Every place free, and no packet in any queue.
+    #[tactic(auto, using(crate::proofs::Making::linked_below_none))]
     pub(crate) fn new() -> Chains
         ensures { Fresh result }
     {
