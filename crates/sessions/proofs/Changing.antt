@@ -1,5 +1,5 @@
 -- What the changes make of the meaning.
-use Rattle.std.proofs.Common.{◌≡◌, ℕ, ◌<◌, Bool, true, false, cond, eqb, List, [], ◌∷◌, ◌++◌, length, set, None, Option, sym, refl, ap, ◌∙◌, ⊎_elim, arith}
+use Rattle.std.proofs.Common.{◌≡◌, ℕ, ◌<◌, Bool, true, false, cond, eqb, List, [], ◌∷◌, ◌++◌, length, set, is_some, Some, None, Option, sym, refl, ap, ◌∙◌, ⊎_elim, arith}
 use Rattle.std.specs.Option.{option_map}
 use Rattle.std.proofs.lemmas.List.{get_or-set_same, get_or-set_other}
 use Rattle.std.proofs.lemmas.Bool.{cases_eq, eq-eqb, ne_eqb, cond-true, cond-false}
@@ -10,13 +10,12 @@ use Rattle.calls.specs.declared.call.Terms.{Terms}
 use Rattle.waiting.specs.Queues.{queue, all_waiting, put, rest_of, after_take}
 use Rattle.waiting.proofs.Using.{put_here, put_other}
 use Rattle.sharing.specs.Meanings.{Meaning, Session, nothing_open, with_session, with_waiting, after_first, credited, after_open, after_enter, after_start, after_finish}
-use Rattle.sessions.specs.declared.seat.Seat.{Seat}
-use Rattle.sessions.specs.declared.seat.Seat.TheVariants.{Closed, Open}
+use Rattle.sessions.specs.declared.seat.Account.{Account}
 use Rattle.sessions.specs.declared.condition.Condition.{Condition}
 use Rattle.sessions.specs.declared.condition.Condition.TheVariants.{Idle, Pausing, Carrying}
 use Rattle.sessions.specs.declared.condition.Event.TheVariants.{Entered, Started, Finished}
 use Rattle.sessions.specs.declared.parts.Parts.{Parts}
-use Rattle.sessions.specs.Seats.{seat_at, is_open, new_seat, with_octets, waiting_while_closed, session_of}
+use Rattle.sessions.specs.Seats.{seat_at, new_account, with_octets, waiting_while_closed, session_of}
 use Rattle.sessions.specs.Conditions.{moved, service_of}
 use Rattle.sessions.specs.Steps.{Fresh, with_seat, with_condition}
 use Rattle.sessions.specs.Meanings.{meaning_in}
@@ -37,26 +36,26 @@ is_with_session m n s new service here there served =
 
 -- ---- one session
 
-entered_session : (seat : Seat) (packets : List Packet) (p : Packet) →
+entered_session : (seat : Option Account) (packets : List Packet) (p : Packet) →
     session_of seat (packets ++ p ∷ []) ≡ option_map (λ t. with_waiting (t.waiting ++ p ∷ []) t) (session_of seat packets)
-entered_session Closed packets p = refl
-entered_session (Open account) packets p = refl
+entered_session None packets p = refl
+entered_session (Some account) packets p = refl
 
-started_session : (seat : Seat) (packets : List Packet) →
+started_session : (seat : Option Account) (packets : List Packet) →
     session_of seat (rest_of packets) ≡ option_map (λ t. with_waiting (after_first t.waiting) t) (session_of seat packets)
-started_session Closed packets = refl
-started_session (Open account) [] = refl
-started_session (Open account) (p ∷ packets) = refl
+started_session None packets = refl
+started_session (Some account) [] = refl
+started_session (Some account) (p ∷ packets) = refl
 
-finished_session : (seat : Seat) (packets : List Packet) (amount : ℕ) →
-    session_of (with_octets amount seat) packets ≡ option_map (credited amount) (session_of seat packets)
-finished_session Closed packets amount = refl
-finished_session (Open account) packets amount = refl
+finished_session : (seat : Option Account) (packets : List Packet) (amount : ℕ) →
+    session_of (option_map (with_octets amount) seat) packets ≡ option_map (credited amount) (session_of seat packets)
+finished_session None packets amount = refl
+finished_session (Some account) packets amount = refl
 
-closed_none : (seat : Seat) (packets : List Packet) → is_open seat ≡ false → waiting_while_closed seat packets ≡ 0 → packets ≡ []
-closed_none Closed [] closed none = refl
-closed_none Closed (p ∷ packets) closed none = let no : ⊥ = omega arith in absurd no
-closed_none (Open account) packets closed none = let never : ◌≡◌ {A = ℕ} 0 1 = cc in let no : ⊥ = omega arith in absurd no
+closed_none : (seat : Option Account) (packets : List Packet) → is_some seat ≡ false → waiting_while_closed seat packets ≡ 0 → packets ≡ []
+closed_none None [] closed none = refl
+closed_none None (p ∷ packets) closed none = let no : ⊥ = omega arith in absurd no
+closed_none (Some account) packets closed none = let never : ◌≡◌ {A = ℕ} 0 1 = cc in let no : ⊥ = omega arith in absurd no
 
 -- ---- the packet in service
 
@@ -73,39 +72,39 @@ no_service false = refl
 
 pub fresh_meaning : (p : Parts) → Fresh p → meaning_in p ≡ nothing_open
 fresh_meaning p new =
-    let closed : (s : ℕ) → seat_at p.seats s ≡ Closed = λ s. ap (λ seats. seat_at seats s) new.seats ∙ repeated 64 s in
+    let closed : (s : ℕ) → seat_at p.seats s ≡ None = λ s. ap (λ seats. seat_at seats s) new.seats ∙ repeated 64 s in
     λ i. record {
       session = λ s. ap (λ seat. session_of seat (queue p.waiting s)) (closed s) i;
       in_service = ap service_of new.condition i;
     }
 
 -- one seat changes
-module _ (p : Parts) (s : ℕ) (seat : Seat) (low : s < length p.seats) where
+module _ (p : Parts) (s : ℕ) (seat : Option Account) (low : s < length p.seats) where
   changed_here : session_of (seat_at (set p.seats s seat) s) (queue p.waiting s) ≡ session_of seat (queue p.waiting s)
-  changed_here = ap (λ t. session_of t (queue p.waiting s)) (get_or-set_same p.seats s seat Closed low)
+  changed_here = ap (λ t. session_of t (queue p.waiting s)) (get_or-set_same p.seats s seat None low)
 
   changed_there : (k : ℕ) → (k ≡ s → ⊥) → session_of (seat_at (set p.seats s seat) k) (queue p.waiting k) ≡ (meaning_in p).session k
-  changed_there k ne = ap (λ t. session_of t (queue p.waiting k)) (get_or-set_other p.seats s k seat Closed ne)
+  changed_there k ne = ap (λ t. session_of t (queue p.waiting k)) (get_or-set_other p.seats s k seat None ne)
 
 pub open_meaning :
-    (p after : Parts) (s : ℕ) (terms : Terms) → s < length p.seats → is_open (seat_at p.seats s) ≡ false →
-    waiting_while_closed (seat_at p.seats s) (queue p.waiting s) ≡ 0 → after ≡ with_seat p s (new_seat terms) →
+    (p after : Parts) (s : ℕ) (terms : Terms) → s < length p.seats → is_some (seat_at p.seats s) ≡ false →
+    waiting_while_closed (seat_at p.seats s) (queue p.waiting s) ≡ 0 → after ≡ with_seat p s (Some (new_account terms)) →
     meaning_in after ≡ after_open (meaning_in p) s terms.weight terms.limit
 open_meaning p after s terms low closed none is =
     ap meaning_in is ∙
-    is_with_session (meaning_in p) (meaning_in (with_seat p s (new_seat terms))) s _ _
-    (changed_here p s (new_seat terms) low ∙ ap (session_of (new_seat terms)) (closed_none (seat_at p.seats s) (queue p.waiting s) closed none))
-    (changed_there p s (new_seat terms) low)
+    is_with_session (meaning_in p) (meaning_in (with_seat p s (Some (new_account terms)))) s _ _
+    (changed_here p s (Some (new_account terms)) low ∙ ap (session_of (Some (new_account terms))) (closed_none (seat_at p.seats s) (queue p.waiting s) closed none))
+    (changed_there p s (Some (new_account terms)) low)
     refl
 
 pub finish_meaning :
     (p after : Parts) (service : Service) → service.session < length p.seats → p.condition ≡ Carrying service →
-    after ≡ with_condition (with_seat p service.session (with_octets (charge service.packet.length) (seat_at p.seats service.session)))
+    after ≡ with_condition (with_seat p service.session (option_map (with_octets (charge service.packet.length)) (seat_at p.seats service.session)))
     (moved p.condition Finished (all_waiting p.waiting)) →
     meaning_in after ≡ after_finish (meaning_in p) service.session service.packet
 finish_meaning p after service low carried is =
     let s = service.session in
-    let seat = with_octets (charge service.packet.length) (seat_at p.seats s) in
+    let seat = option_map (with_octets (charge service.packet.length)) (seat_at p.seats s) in
     let n = all_waiting p.waiting in
     ap meaning_in is ∙
     is_with_session (meaning_in p) (meaning_in (with_condition (with_seat p s seat) (moved p.condition Finished n))) s _ _

@@ -1,5 +1,5 @@
 -- What the small changes keep of what always holds.
-use Rattle.std.proofs.Common.{◌≡◌, ℕ, zero, suc, ◌<◌, ◌≤◌, Bool, true, false, cond, not, ◌&&◌, eqb, ltb, List, [], ◌∷◌, ◌++◌, length, set, replicate, Some, None, Ok, Err, Option, sym, refl, ap, ◌∙◌, subst, ⊎_elim, arith}
+use Rattle.std.proofs.Common.{◌≡◌, ℕ, zero, suc, ◌<◌, ◌≤◌, Bool, true, false, cond, not, ◌&&◌, eqb, ltb, List, [], ◌∷◌, ◌++◌, length, set, replicate, is_some, option_map, Some, None, Ok, Err, Option, sym, refl, ap, ◌∙◌, subst, ⊎_elim, arith}
 use Rattle.std.proofs.lemmas.List.{get_or-set_same, get_or-set_other, get_or_past, length-set}
 use Rattle.std.proofs.lemmas.Bool.{cases_eq, cases_lt, both_ways, not-true, lt-ltb, ltb-true, eqb-true, eq-eqb, ne_eqb, cond-true, cond-false, and_from}
 use Rattle.calls.specs.Strides.{within}
@@ -11,14 +11,13 @@ use Rattle.calls.specs.declared.refusal.Refusal.TheVariants.{NoSuchSession, BadW
 use Rattle.waiting.specs.Queues.{queue, total, all_waiting, put, rest_of, after_take}
 use Rattle.waiting.proofs.Using.{put_here, put_other, total_no_packets, total_push, count_within_total}
 use Rattle.sharing.specs.Rules.{check, open_refusal}
-use Rattle.sessions.specs.declared.seat.Seat.{Seat}
-use Rattle.sessions.specs.declared.seat.Seat.TheVariants.{Closed, Open}
+use Rattle.sessions.specs.declared.seat.Account.{Account}
 use Rattle.sessions.specs.declared.condition.Condition.{Condition}
 use Rattle.sessions.specs.declared.condition.Condition.TheVariants.{Idle, Pausing, Carrying}
 use Rattle.sessions.specs.declared.condition.Event.TheVariants.{Entered, Started, Finished}
 use Rattle.sessions.specs.declared.parts.Parts.{Parts}
 use Rattle.sessions.specs.declared.state.Sessions.{Sessions}
-use Rattle.sessions.specs.Seats.{seat_at, is_open, new_seat, with_octets, terms_within, waiting_while_closed}
+use Rattle.sessions.specs.Seats.{seat_at, new_account, with_octets, terms_within, waiting_while_closed}
 use Rattle.sessions.specs.Conditions.{moved, resting, fits, serves_open, free_from, service_of}
 use Rattle.sessions.specs.Steps.{Fresh, with_seat, with_condition}
 use Rattle.sessions.specs.Invariants.{TermsWithin, ClosedEmpty, ConditionFits, ServesOpen}
@@ -70,58 +69,58 @@ openable is_open s terms none =
 
 -- ---- seats
 
-pub repeated : (n s : ℕ) → seat_at (replicate n Closed) s ≡ Closed
+pub repeated : (n s : ℕ) → seat_at (replicate n None) s ≡ None
 repeated zero s = refl
 repeated (suc n) zero = refl
 repeated (suc n) (suc s) = repeated n s
 
 -- one seat changes
 pub seat_set :
-    (P : ℕ → Seat → Type 0) (seats : List Seat) (s : ℕ) (seat : Seat) → s < length seats → P s seat →
+    (P : ℕ → Option Account → Type 0) (seats : List (Option Account)) (s : ℕ) (seat : Option Account) → s < length seats → P s seat →
     ((k : ℕ) → (k ≡ s → ⊥) → P k (seat_at seats k)) → (k : ℕ) → P k (seat_at (set seats s seat) k)
 seat_set P seats s seat low here there k =
     ⊎_elim
-    (λ (e : k ≡ s). subst (λ n. P n (seat_at (set seats s seat) n)) (sym e) (subst (P s) (sym (get_or-set_same seats s seat Closed low)) here))
-    (λ (ne : k ≡ s → ⊥). subst (P k) (sym (get_or-set_other seats s k seat Closed ne)) (there k ne))
+    (λ (e : k ≡ s). subst (λ n. P n (seat_at (set seats s seat) n)) (sym e) (subst (P s) (sym (get_or-set_same seats s seat None low)) here))
+    (λ (ne : k ≡ s → ⊥). subst (P k) (sym (get_or-set_other seats s k seat None ne)) (there k ne))
     (cases_eq k s)
 
-open_empty : (seat : Seat) (packets : List Packet) → is_open seat ≡ true → waiting_while_closed seat packets ≡ 0
-open_empty Closed packets opened = absurd (both_ways false refl opened)
-open_empty (Open account) packets opened = refl
+open_empty : (seat : Option Account) (packets : List Packet) → is_some seat ≡ true → waiting_while_closed seat packets ≡ 0
+open_empty None packets opened = absurd (both_ways false refl opened)
+open_empty (Some account) packets opened = refl
 
-rest_empty : (seat : Seat) (packets : List Packet) → waiting_while_closed seat packets ≡ 0 → waiting_while_closed seat (rest_of packets) ≡ 0
-rest_empty Closed [] none = none
-rest_empty Closed (p ∷ packets) none = let no : ⊥ = omega arith in absurd no
-rest_empty (Open account) packets none = refl
+rest_empty : (seat : Option Account) (packets : List Packet) → waiting_while_closed seat packets ≡ 0 → waiting_while_closed seat (rest_of packets) ≡ 0
+rest_empty None [] none = none
+rest_empty None (p ∷ packets) none = let no : ⊥ = omega arith in absurd no
+rest_empty (Some account) packets none = refl
 
-pub open_if_waiting : (seat : Seat) (packets : List Packet) → waiting_while_closed seat packets ≡ 0 → 0 < length packets → is_open seat ≡ true
-open_if_waiting Closed packets none some = let no : ⊥ = omega arith in absurd no
-open_if_waiting (Open account) packets none some = refl
+pub open_if_waiting : (seat : Option Account) (packets : List Packet) → waiting_while_closed seat packets ≡ 0 → 0 < length packets → is_some seat ≡ true
+open_if_waiting None packets none some = let no : ⊥ = omega arith in absurd no
+open_if_waiting (Some account) packets none some = refl
 
-credited_open : (amount : ℕ) (seat : Seat) → is_open seat ≡ true → is_open (with_octets amount seat) ≡ true
-credited_open amount Closed opened = opened
-credited_open amount (Open account) opened = refl
+credited_open : (amount : ℕ) (seat : Option Account) → is_some seat ≡ true → is_some (option_map (with_octets amount) seat) ≡ true
+credited_open amount None opened = opened
+credited_open amount (Some account) opened = refl
 
-credited_within : (amount : ℕ) (seat : Seat) → terms_within seat ≡ true → terms_within (with_octets amount seat) ≡ true
-credited_within amount Closed within = within
-credited_within amount (Open account) within = within
+credited_within : (amount : ℕ) (seat : Option Account) → terms_within seat ≡ true → terms_within (option_map (with_octets amount) seat) ≡ true
+credited_within amount None within = within
+credited_within amount (Some account) within = within
 
-pub open_below : (seats : List Seat) (s : ℕ) → is_open (seat_at seats s) ≡ true → s < length seats
+pub open_below : (seats : List (Option Account)) (s : ℕ) → is_some (seat_at seats s) ≡ true → s < length seats
 open_below seats s opened =
     ⊎_elim
     (λ (low : s < length seats). low)
-    (λ (past : length seats ≤ s). absurd (both_ways (is_open (seat_at seats s)) (ap is_open (get_or_past seats s Closed past)) opened))
+    (λ (past : length seats ≤ s). absurd (both_ways (is_some (seat_at seats s)) (ap is_some (get_or_past seats s None past)) opened))
     (cases_lt s (length seats))
 
 -- ---- the condition
 
 serves_set :
-    (condition : Condition) (seats : List Seat) (s : ℕ) (seat : Seat) → s < length seats → is_open seat ≡ true →
+    (condition : Condition) (seats : List (Option Account)) (s : ℕ) (seat : Option Account) → s < length seats → is_some seat ≡ true →
     serves_open condition seats ≡ true → serves_open condition (set seats s seat) ≡ true
 serves_set Idle seats s seat low opened serves = refl
 serves_set Pausing seats s seat low opened serves = refl
 serves_set (Carrying service) seats s seat low opened serves =
-    let P : ℕ → Seat → Type 0 = λ k t. is_open (seat_at seats k) ≡ true → is_open t ≡ true in
+    let P : ℕ → Option Account → Type 0 = λ k t. is_some (seat_at seats k) ≡ true → is_some t ≡ true in
     seat_set P seats s seat low (λ was. opened) (λ k ne was. was) service.session serves
 
 fits_entered : (condition : Condition) (n : ℕ) → 0 < n → fits (moved condition Entered n) n ≡ true
@@ -129,7 +128,7 @@ fits_entered Idle n some = lt-ltb 0 n some
 fits_entered Pausing n some = lt-ltb 0 n some
 fits_entered (Carrying service) n some = refl
 
-serves_entered : (condition : Condition) (seats : List Seat) (n : ℕ) → serves_open condition seats ≡ true → serves_open (moved condition Entered n) seats ≡ true
+serves_entered : (condition : Condition) (seats : List (Option Account)) (n : ℕ) → serves_open condition seats ≡ true → serves_open (moved condition Entered n) seats ≡ true
 serves_entered Idle seats n serves = refl
 serves_entered Pausing seats n serves = refl
 serves_entered (Carrying service) seats n serves = serves
@@ -141,7 +140,7 @@ fits_resting n =
     (λ (some : n ≡ 0 → ⊥). ap (λ c. fits c n) (cond-false (eqb n 0) Idle Pausing (ne_eqb n 0 some)) ∙ lt-ltb 0 n (omega arith))
     (cases_eq n 0)
 
-serves_either : (b : Bool) (seats : List Seat) → serves_open (cond b Idle Pausing) seats ≡ true
+serves_either : (b : Bool) (seats : List (Option Account)) → serves_open (cond b Idle Pausing) seats ≡ true
 serves_either true seats = refl
 serves_either false seats = refl
 
@@ -160,7 +159,7 @@ carrying (Carrying other) service is = cc
 
 pub fresh_keeps : (p : Parts) → Fresh p → Ghosts p
 fresh_keeps p new =
-    let closed : (s : ℕ) → seat_at p.seats s ≡ Closed = λ s. ap (λ seats. seat_at seats s) new.seats ∙ repeated 64 s in
+    let closed : (s : ℕ) → seat_at p.seats s ≡ None = λ s. ap (λ seats. seat_at seats s) new.seats ∙ repeated 64 s in
     let none : all_waiting p.waiting ≡ 0 = ap total new.queues ∙ total_no_packets in
     record {
       seats = ap length new.seats;
@@ -172,7 +171,7 @@ fresh_keeps p new =
 
 module _ (p : Parts) (g : Ghosts p) where
   -- an open seat in the place of another
-  seat_keeps : (s : ℕ) (seat : Seat) → s < 64 → is_open seat ≡ true → terms_within seat ≡ true → Ghosts (with_seat p s seat)
+  seat_keeps : (s : ℕ) (seat : Option Account) → s < 64 → is_some seat ≡ true → terms_within seat ≡ true → Ghosts (with_seat p s seat)
   seat_keeps s seat low opened within =
       let there : s < length p.seats = omega (arith, g.seats) in
       record {
@@ -186,11 +185,11 @@ module _ (p : Parts) (g : Ghosts p) where
       }
 
   pub open_keeps :
-      (s : ℕ) (terms : Terms) (after : Parts) → Ok (tt {0}) ≡ verdict (open_refusal (is_open (seat_at p.seats s)) s terms.weight terms.limit) (tt {0}) →
-      after ≡ with_seat p s (new_seat terms) → Ghosts after
+      (s : ℕ) (terms : Terms) (after : Parts) → Ok (tt {0}) ≡ verdict (open_refusal (is_some (seat_at p.seats s)) s terms.weight terms.limit) (tt {0}) →
+      after ≡ with_seat p s (Some (new_account terms)) → Ghosts after
   open_keeps s terms after ok is =
-      let can = openable (is_open (seat_at p.seats s)) s terms (no_reason (open_refusal (is_open (seat_at p.seats s)) s terms.weight terms.limit) (tt {0}) (tt {0}) ok) in
-      subst Ghosts (sym is) (seat_keeps s (new_seat terms) can.session refl can.terms)
+      let can = openable (is_some (seat_at p.seats s)) s terms (no_reason (open_refusal (is_some (seat_at p.seats s)) s terms.weight terms.limit) (tt {0}) (tt {0}) ok) in
+      subst Ghosts (sym is) (seat_keeps s (Some (new_account terms)) can.session refl can.terms)
 
   -- the queues change, and the condition
   queues_keep :
@@ -206,7 +205,7 @@ module _ (p : Parts) (g : Ghosts p) where
   }
 
   pub enter_keeps :
-      (s : ℕ) (packet : Packet) (after : Parts) → s < 64 → is_open (seat_at p.seats s) ≡ true → after.seats ≡ p.seats →
+      (s : ℕ) (packet : Packet) (after : Parts) → s < 64 → is_some (seat_at p.seats s) ≡ true → after.seats ≡ p.seats →
       queue after.waiting ≡ put (queue p.waiting) s (queue p.waiting s ++ packet ∷ []) →
       after.condition ≡ moved p.condition Entered (all_waiting after.waiting) → Ghosts after
   enter_keeps s packet after low opened seats queues condition =
@@ -216,7 +215,7 @@ module _ (p : Parts) (g : Ghosts p) where
       queues_keep after seats
       (λ k. ap (λ f. waiting_while_closed (seat_at p.seats k) (f k)) queues ∙
       ⊎_elim
-      (λ (e : k ≡ s). open_empty (seat_at p.seats k) _ (ap (λ i. is_open (seat_at p.seats i)) e ∙ opened))
+      (λ (e : k ≡ s). open_empty (seat_at p.seats k) _ (ap (λ i. is_some (seat_at p.seats i)) e ∙ opened))
       (λ (ne : k ≡ s → ⊥). ap (waiting_while_closed (seat_at p.seats k)) (put_other q s (q s ++ packet ∷ []) k ne) ∙ g.closed k)
       (cases_eq k s))
       (ap (λ c. fits c n) condition ∙ fits_entered p.condition n some)
@@ -248,7 +247,7 @@ module _ (p : Parts) (g : Ghosts p) where
       (ap (λ c. fits c n) now)
       (ap (λ c. serves_open c p.seats) now ∙ open_if_waiting (seat_at p.seats s) (q s) (g.closed s) some)
 
-  pub serves : (service : Service) → p.condition ≡ Carrying service → is_open (seat_at p.seats service.session) ≡ true
+  pub serves : (service : Service) → p.condition ≡ Carrying service → is_some (seat_at p.seats service.session) ≡ true
   serves service is = sym (ap (λ c. serves_open c p.seats) is) ∙ g.served
 
   pub serves_below : (service : Service) → p.condition ≡ Carrying service → service.session < length p.seats
@@ -256,16 +255,16 @@ module _ (p : Parts) (g : Ghosts p) where
 
   pub finish_keeps :
       (service : Service) (amount : ℕ) (after : Parts) → p.condition ≡ Carrying service →
-      after ≡ with_condition (with_seat p service.session (with_octets amount (seat_at p.seats service.session)))
+      after ≡ with_condition (with_seat p service.session (option_map (with_octets amount) (seat_at p.seats service.session)))
       (moved p.condition Finished (all_waiting p.waiting)) → Ghosts after
   finish_keeps service amount after carried is =
       let s = service.session in
       let n = all_waiting p.waiting in
       let seat = seat_at p.seats s in
-      let h = seat_keeps s (with_octets amount seat) (omega (arith, serves_below service carried, g.seats)) (credited_open amount seat (serves service carried))
+      let h = seat_keeps s (option_map (with_octets amount) seat) (omega (arith, serves_below service carried, g.seats)) (credited_open amount seat (serves service carried))
       (credited_within amount seat (g.terms s)) in
       let rests : moved p.condition Finished n ≡ resting n = ap (λ c. moved c Finished n) carried in
-      let seats = set p.seats s (with_octets amount seat) in
+      let seats = set p.seats s (option_map (with_octets amount) seat) in
       subst Ghosts (sym is) (
       record {
         seats = h.seats;

@@ -1,20 +1,20 @@
 -- What the questions read, against the meaning.
-use Rattle.std.proofs.Common.{◌≡◌, ℕ, ◌+◌, ◌<◌, ◌≤◌, Bool, true, false, cond, ltb, List, [], ◌∷◌, length, is_some, None, Ok, Err, sum_by, Option, Result, sym, refl, ap, ◌∙◌, ⊎_elim, arith}
+use Rattle.std.proofs.Common.{◌≡◌, ℕ, ◌+◌, ◌<◌, ◌≤◌, Bool, true, false, cond, ltb, List, [], ◌∷◌, length, is_some, Some, None, Ok, Err, sum_by, Option, Result, sym, refl, ap, ◌∙◌, ⊎_elim, arith}
+use Rattle.std.specs.Option.{option_flatten}
+use Rattle.std.specs.Result.{result_ok}
 use Rattle.calls.specs.declared.call.Packet.{Packet}
 use Rattle.calls.specs.declared.refusal.Refusal.{Refusal}
 use Rattle.calls.specs.declared.refusal.Refusal.TheVariants.{NoSuchSession, NothingWaiting}
 use Rattle.calls.specs.Sums.{sum_below}
 use Rattle.waiting.specs.Queues.{queue, first_of, first_answer, total_length, of_session}
 use Rattle.waiting.specs.Queues as queues
-use Rattle.waiting.proofs.Using.{of_session_low, of_session_ok, of_session_err, no_queue_past}
+use Rattle.waiting.proofs.Using.{of_session_low, of_session_past, no_queue_past}
 use Rattle.sharing.specs.Meanings.{Session, waiting_of, waiting_in, all_waiting, if_open, asked}
 use Rattle.sessions.specs.declared.seat.Account.{Account}
-use Rattle.sessions.specs.declared.seat.Seat.{Seat}
-use Rattle.sessions.specs.declared.seat.Seat.TheVariants.{Closed, Open}
 use Rattle.sessions.specs.declared.state.Sessions.{Sessions}
 use Rattle.sessions.specs.declared.condition.Condition.{Condition}
 use Rattle.sessions.specs.declared.condition.Condition.TheVariants.{Idle, Pausing, Carrying}
-use Rattle.sessions.specs.Seats.{seat_at, is_open, account_of, account_at, session_with, session_of, waiting_while_closed}
+use Rattle.sessions.specs.Seats.{seat_at, account_of, account_at, session_with, session_of, waiting_while_closed}
 use Rattle.sessions.specs.Conditions.{service_of, start_from, fits}
 use Rattle.sessions.specs.Meanings.{meaning_of}
 use Rattle.sessions.specs.Verdicts.{verdict, why_start}
@@ -24,37 +24,37 @@ use Rattle.std.proofs.lemmas.Bool.{cases_lt, cond-false, le-ltb, eqb-true}
 
 -- ---- seats
 
-pub open_is_some : (seat : Seat) (packets : List Packet) → is_some (session_of seat packets) ≡ is_open seat
-open_is_some Closed packets = refl
-open_is_some (Open account) packets = refl
+pub open_is_some : (seat : Option Account) (packets : List Packet) → is_some (session_of seat packets) ≡ is_some seat
+open_is_some None packets = refl
+open_is_some (Some account) packets = refl
 
 no_length : (packets : List Packet) → length packets ≡ 0 → packets ≡ []
 no_length [] none = refl
 no_length (p ∷ packets) none = let no : ⊥ = omega arith in absurd no
 
-waiting_of_session : (seat : Seat) (packets : List Packet) → waiting_while_closed seat packets ≡ 0 → waiting_of (session_of seat packets) ≡ packets
-waiting_of_session Closed packets none = sym (no_length packets none)
-waiting_of_session (Open account) packets none = refl
+waiting_of_session : (seat : Option Account) (packets : List Packet) → waiting_while_closed seat packets ≡ 0 → waiting_of (session_of seat packets) ≡ packets
+waiting_of_session None packets none = sym (no_length packets none)
+waiting_of_session (Some account) packets none = refl
 
 -- ---- a question about an open session
 
 ask_ok :
-    {A : Type 0} (low : Bool) (seat : Seat) (packets : List Packet) (ask : Session → A) (account : Account) →
+    {A : Type 0} (low : Bool) (seat : Option Account) (packets : List Packet) (ask : Session → A) (account : Account) →
     Ok account ≡ cond low (account_of seat) (Err NoSuchSession) →
     Ok (ask (session_with account packets)) ≡ cond low (if_open (session_of seat packets) ask) (Err NoSuchSession)
-ask_ok true Closed packets ask account is = let never : ◌≡◌ {A = ℕ} 0 1 = cc in let no : ⊥ = omega arith in absurd no
-ask_ok true (Open other) packets ask account is =
+ask_ok true None packets ask account is = let never : ◌≡◌ {A = ℕ} 0 1 = cc in let no : ⊥ = omega arith in absurd no
+ask_ok true (Some other) packets ask account is =
     let same : account ≡ other = cc in ap (λ a. Ok (ask (session_with a packets))) same
 ask_ok false seat packets ask account is = let never : ◌≡◌ {A = ℕ} 0 1 = cc in let no : ⊥ = omega arith in absurd no
 
 ask_err :
-    {A : Type 0} (low : Bool) (seat : Seat) (packets : List Packet) (ask : Session → A) (e : Refusal) →
+    {A : Type 0} (low : Bool) (seat : Option Account) (packets : List Packet) (ask : Session → A) (e : Refusal) →
     Err e ≡ cond low (account_of seat) (Err NoSuchSession) → Err e ≡ cond low (if_open (session_of seat packets) ask) (Err NoSuchSession)
-ask_err true Closed packets ask e is = cc
-ask_err true (Open other) packets ask e is = let never : ◌≡◌ {A = ℕ} 0 1 = cc in let no : ⊥ = omega arith in absurd no
+ask_err true None packets ask e is = cc
+ask_err true (Some other) packets ask e is = let never : ◌≡◌ {A = ℕ} 0 1 = cc in let no : ⊥ = omega arith in absurd no
 ask_err false seat packets ask e is = cc
 
-account_below : (s : ℕ) (seats : List Seat) (account : Account) → Ok account ≡ account_at seats s → s < 64
+account_below : (s : ℕ) (seats : List (Option Account)) (account : Account) → Ok account ≡ account_at seats s → s < 64
 account_below s seats account is =
     ⊎_elim
     (λ (low : s < 64). low)
@@ -95,16 +95,16 @@ all_waiting_is_total x =
     let same : (λ s. waiting_in (meaning_of x) s) ≡ queue x.parts.waiting = λ i s. waiting_is_queue x s i in
     ap (λ q. sum_below 64 (λ s. length (q s))) same
 
-pub first_is : (x : Sessions) (s : ℕ) (first : Option Packet) → Ok first ≡ first_answer (queue x.parts.waiting) s →
-    first ≡ first_of (waiting_in (meaning_of x) s)
-first_is x s first is =
-    sym (of_session_ok s (first_of (queue x.parts.waiting s)) first (sym is)).1 ∙ ap first_of (sym (waiting_is_queue x s))
-
-pub first_is_none : (x : Sessions) (s : ℕ) (e : Refusal) → Err e ≡ first_answer (queue x.parts.waiting) s →
-    None ≡ first_of (waiting_in (meaning_of x) s)
-first_is_none x s e is =
-    let past = (of_session_err s (first_of (queue x.parts.waiting s)) e (sym is)).0 in
-    sym (ap first_of (waiting_is_queue x s ∙ no_queue_past x.parts.waiting s past))
+-- the first waiting packet; a session above 63 has none
+pub first_asked : (x : Sessions) (s : ℕ) → option_flatten (result_ok (first_answer (queue x.parts.waiting) s)) ≡ first_of (waiting_in (meaning_of x) s)
+first_asked x s =
+    let first = first_of (queue x.parts.waiting s) in
+    ⊎_elim
+    (λ (low : s < 64). ap (λ r. option_flatten (result_ok r)) (of_session_low s first low) ∙ ap first_of (sym (waiting_is_queue x s)))
+    (λ (past : 64 ≤ s).
+    ap (λ r. option_flatten (result_ok r)) (of_session_past s first past)
+    ∙ sym (ap first_of (waiting_is_queue x s ∙ no_queue_past x.parts.waiting s past)))
+    (cases_lt s 64)
 
 -- ---- the condition
 

@@ -1,5 +1,5 @@
 -- What the calls answer and make of the meaning, from what their parts ensure.
-use Rattle.std.proofs.Common.{◌≡◌, ℕ, ◌<◌, true, cond, not, ltb, [], ◌∷◌, ◌++◌, length, is_some as option_is_some, Some, Ok, Err, Option, Result, sym, refl, ap, ◌∙◌, arith}
+use Rattle.std.proofs.Common.{◌≡◌, ℕ, ◌<◌, true, cond, not, ltb, [], ◌∷◌, ◌++◌, length, option_map, is_some as option_is_some, Some, Ok, Err, Option, Result, sym, refl, ap, ◌∙◌, arith}
 use Rattle.std.proofs.lemmas.Bool.{cond-true, cond-false, lt-ltb, le-ltb}
 use Rattle.calls.specs.Strides.{charge}
 use Rattle.calls.specs.declared.call.Packet.{Packet}
@@ -17,7 +17,7 @@ use Rattle.sessions.specs.declared.condition.Condition.TheVariants.{Idle, Pausin
 use Rattle.sessions.specs.declared.condition.Event.TheVariants.{Entered, Started, Finished}
 use Rattle.sessions.specs.declared.parts.Parts.{Parts}
 use Rattle.sessions.specs.declared.state.Sessions.{Sessions}
-use Rattle.sessions.specs.Seats.{seat_at, is_open, new_seat, with_octets}
+use Rattle.sessions.specs.Seats.{seat_at, new_account, with_octets}
 use Rattle.sessions.specs.Conditions.{moved, free_from, service_of}
 use Rattle.sessions.specs.Steps.{with_seat, with_condition}
 use Rattle.sessions.specs.Meanings.{meaning_in, meaning_of}
@@ -40,7 +40,7 @@ stays why value before after e refused = sym (ap (λ w. settled w before after) 
 
 module _ (x : Sessions) (s : ℕ) (terms : Terms) where
   pub open_verdict :
-      verdict (open_refusal (is_open (seat_at x.parts.seats s)) s terms.weight terms.limit) (tt {0}) ≡
+      verdict (open_refusal (option_is_some (seat_at x.parts.seats s)) s terms.weight terms.limit) (tt {0}) ≡
       verdict (why_open (meaning_of x) s terms.weight terms.limit) (tt {0})
   unfolding meaning_of
   open_verdict =
@@ -48,12 +48,12 @@ module _ (x : Sessions) (s : ℕ) (terms : Terms) where
       (sym (open_is_some (seat_at x.parts.seats s) (queue x.parts.waiting s)))
 
   pub opened :
-      (y : Sessions) → Ok (tt {0}) ≡ verdict (open_refusal (is_open (seat_at x.parts.seats s)) s terms.weight terms.limit) (tt {0}) →
-      y.parts ≡ with_seat x.parts s (new_seat terms) → meaning_of y ≡ after_open (meaning_of x) s terms.weight terms.limit
+      (y : Sessions) → Ok (tt {0}) ≡ verdict (open_refusal (option_is_some (seat_at x.parts.seats s)) s terms.weight terms.limit) (tt {0}) →
+      y.parts ≡ with_seat x.parts s (Some (new_account terms)) → meaning_of y ≡ after_open (meaning_of x) s terms.weight terms.limit
   unfolding meaning_of
   opened y ok is =
-      let can = openable (is_open (seat_at x.parts.seats s)) s terms
-      (no_reason (open_refusal (is_open (seat_at x.parts.seats s)) s terms.weight terms.limit) (tt {0}) (tt {0}) ok) in
+      let can = openable (option_is_some (seat_at x.parts.seats s)) s terms
+      (no_reason (open_refusal (option_is_some (seat_at x.parts.seats s)) s terms.weight terms.limit) (tt {0}) (tt {0}) ok) in
       open_meaning x.parts y.parts s terms (omega (arith, can.session, x.seats)) can.closed (x.closed s) is
 
 -- ---- put
@@ -65,7 +65,7 @@ module _ (x : Sessions) (s : ℕ) (ok : Ok (tt {0}) ≡ verdict (why_put (meanin
   pub put_below : s < 64
   put_below = can_put.session
 
-  pub put_open : is_open (seat_at x.parts.seats s) ≡ true
+  pub put_open : option_is_some (seat_at x.parts.seats s) ≡ true
   unfolding meaning_of
   put_open = sym (open_is_some (seat_at x.parts.seats s) (queue x.parts.waiting s)) ∙ can_put.is_open
 
@@ -162,7 +162,7 @@ module _ (x : Sessions) where
     finish_below = serves_below x.parts (ghosts x) service carries
 
     module _ (after : Parts)
-        (is : after ≡ with_condition (with_seat x.parts service.session (with_octets (charge service.packet.length) (seat_at x.parts.seats service.session)))
+        (is : after ≡ with_condition (with_seat x.parts service.session (option_map (with_octets (charge service.packet.length)) (seat_at x.parts.seats service.session)))
         (moved x.parts.condition Finished (queues.all_waiting x.parts.waiting))) where
       pub finished_keeps : Ghosts after
       finished_keeps = finish_keeps x.parts (ghosts x) service (charge service.packet.length) after carries is

@@ -15,12 +15,11 @@ use Rattle.waiting.proofs.Sums.{sum_below_none, sum_below_same, sum_below_change
 use Rattle.waiting.proofs.Using.{at_most_256_wait, none_waiting}
 use Rattle.sharing.specs.Rules.{check, length_refusal, room_beside}
 use Rattle.sharing.specs.Meanings.{Meaning, Session, nothing_open, waiting_of, waiting_in, all_waiting, refusal, with_session, with_waiting, after_first, credited, after_open, after_enter, after_start, after_finish}
-use Rattle.sessions.specs.declared.seat.Seat.{Seat}
-use Rattle.sessions.specs.declared.seat.Seat.TheVariants.{Closed, Open}
+use Rattle.sessions.specs.declared.seat.Account.{Account}
 use Rattle.sessions.specs.declared.condition.Condition.{Condition}
 use Rattle.sessions.specs.declared.condition.Condition.TheVariants.{Idle, Pausing, Carrying}
 use Rattle.sessions.specs.declared.state.Sessions.{Sessions}
-use Rattle.sessions.specs.Seats.{seat_at, is_open, terms_within, session_of}
+use Rattle.sessions.specs.Seats.{seat_at, terms_within, session_of}
 use Rattle.sessions.specs.Conditions.{service_of}
 use Rattle.sessions.specs.Meanings.{meaning_of}
 use Rattle.sessions.specs.Verdicts.{settled, why_open, why_put, why_start, after_served, length_of, length_answer, taken, take_answer}
@@ -37,9 +36,9 @@ pub record InOrder (s : ℕ) (t : Session) : Type 0 where
   pub some_limit : 0 < t.limit
   pub limit : t.limit ≤ 65535
 
-in_order : (seat : Seat) (packets : List Packet) (s : ℕ) (t : Session) → s < 64 → terms_within seat ≡ true → session_of seat packets ≡ Some t → InOrder s t
-in_order Closed packets s t low fit is = let never : ◌≡◌ {A = ℕ} 0 1 = cc in let no : ⊥ = omega arith in absurd no
-in_order (Open account) packets s t low fit is =
+in_order : (seat : Option Account) (packets : List Packet) (s : ℕ) (t : Session) → s < 64 → terms_within seat ≡ true → session_of seat packets ≡ Some t → InOrder s t
+in_order None packets s t low fit is = let never : ◌≡◌ {A = ℕ} 0 1 = cc in let no : ⊥ = omega arith in absurd no
+in_order (Some account) packets s t low fit is =
     let parts = and_parts (within account.terms.weight 16) (within account.terms.limit 65535) fit in
     let weights = and_parts (ltb 0 account.terms.weight) (leb account.terms.weight 16) parts.0 in
     let limits = and_parts (ltb 0 account.terms.limit) (leb account.terms.limit 65535) parts.1 in
@@ -53,7 +52,7 @@ in_order (Open account) packets s t low fit is =
       limit = omega (arith, leb-true account.terms.limit 65535 limits.1);
     }
 
-some_open : (seat : Seat) (packets : List Packet) (t : Session) → session_of seat packets ≡ Some t → is_open seat ≡ true
+some_open : (seat : Option Account) (packets : List Packet) (t : Session) → session_of seat packets ≡ Some t → is_some seat ≡ true
 some_open seat packets t is = sym (open_is_some seat packets) ∙ ap is_some is
 
 carried : (condition : Condition) (service : Service) → service_of condition ≡ Some service → condition ≡ Carrying service

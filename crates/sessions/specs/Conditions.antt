@@ -1,14 +1,14 @@
 -- The condition of a line, and how events move it.
-use Rattle.std.specs.Prelude.{ℕ, Bool, true, cond, List, Some, None, Ok, Err, Option, Result, ◌==◌, nat_lt}
+use Rattle.std.specs.Prelude.{ℕ, Bool, true, cond, List, is_some, Some, None, Ok, Err, Option, Result, ◌==◌, nat_lt}
 use Rattle.calls.specs.declared.call.Service.{Service}
 use Rattle.calls.specs.declared.refusal.Refusal.{Refusal}
 use Rattle.calls.specs.declared.refusal.Refusal.TheVariants.{NothingWaiting, ServerBusy}
-use Rattle.sessions.specs.declared.seat.Seat.{Seat}
+use Rattle.sessions.specs.declared.seat.Account.{Account}
 use Rattle.sessions.specs.declared.condition.Condition.{Condition}
 use Rattle.sessions.specs.declared.condition.Condition.TheVariants.{Idle, Pausing, Carrying}
 use Rattle.sessions.specs.declared.condition.Event.{Event}
 use Rattle.sessions.specs.declared.condition.Event.TheVariants.{Entered, Started, Finished}
-use Rattle.sessions.specs.Seats.{seat_at, is_open}
+use Rattle.sessions.specs.Seats.{seat_at}
 
 abbrev pub service_of : Condition → Option Service
 service_of Idle = None
@@ -38,10 +38,10 @@ fits Pausing n = nat_lt 0 n
 fits (Carrying service) n = true
 
 -- the session in service is open
-abbrev pub serves_open : Condition → List Seat → Bool
+abbrev pub serves_open : Condition → List (Option Account) → Bool
 serves_open Idle seats = true
 serves_open Pausing seats = true
-serves_open (Carrying service) seats = is_open (seat_at seats service.session)
+serves_open (Carrying service) seats = is_some (seat_at seats service.session)
 
 abbrev pub free_from : Condition → Result (Unit {0}) Refusal
 free_from Idle = Ok tt

@@ -38,6 +38,11 @@ why_start m = start_refusal (is_some m.in_service) (all_waiting m)
 abbrev pub why_finish : Meaning → Option Refusal
 why_finish m = finish_refusal (is_some m.in_service)
 
+-- ---- a packet waits only where a place is left
+
+abbrev pub room_answer_at : ℕ → Result (Unit {0}) Refusal
+room_answer_at waiting = cond (nat_lt 0 (room_beside waiting)) (Ok tt) (Err Full)
+
 -- ---- the terms of a session that may enter a packet of this length
 
 abbrev pub length_of : ℕ → Option Session → Result Terms Refusal

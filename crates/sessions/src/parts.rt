@@ -1,25 +1,24 @@
 // The parts of the state, and the small changes that the calls are made of.
-ghost use Rattle.std.specs.Prelude.{◌≡◌, ◌<◌, [], ◌∷◌, ◌++◌, length};
+ghost use Rattle.std.specs.Prelude.{◌≡◌, ◌<◌, [], ◌∷◌, ◌++◌, length, is_some, Some, option_map};
 ghost use Rattle.calls.specs.Strides.{charge};
 ghost use Rattle.sharing.specs.Rules.{open_refusal};
 ghost use Rattle.waiting.specs.Queues.{queue, all_waiting, put, after_take};
-ghost use Rattle.sessions.specs.Seats.{seat_at, is_open, account_at, new_seat, with_octets};
+ghost use Rattle.sessions.specs.Seats.{seat_at, account_at, new_account, with_octets};
 ghost use Rattle.sessions.specs.Conditions.{moved, resting, free_from, start_from, service_of};
 ghost use Rattle.sessions.specs.Steps.{Fresh, with_seat, with_condition};
 ghost use Rattle.sessions.specs.Verdicts.{verdict, served};
 
 use crate::condition::{Condition, Event};
-use crate::seat::{Account, Seat};
+use crate::seat::Account;
 use calls::call::{Packet, Service, Terms};
 use calls::refusal::Refusal;
+use calls::session::{SESSIONS, place_of};
 use calls::stride::charge;
 use waiting::table::Waiting;
 
-const SESSIONS: u32 = 64;
-
 #[derive(Clone, Copy)]
 pub(crate) struct Parts {
-    pub(crate) seats: [Seat; SESSIONS as usize],
+    pub(crate) seats: [Option<Account>; SESSIONS as usize],
     pub(crate) waiting: Waiting,
     pub(crate) condition: Condition,
 }
@@ -30,7 +29,7 @@ impl Parts {
         ensures { Fresh result }
     {
         Parts {
-            seats: [Seat::Closed; SESSIONS as usize],
+            seats: [None; SESSIONS as usize],
             waiting: Waiting::new(),
             condition: Condition::Idle,
         }
@@ -41,33 +40,26 @@ impl Parts {
         requires { length self.now.seats ≡ 64 }
         ensures { result ≡ account_at self.now.seats session }
     {
-        if session >= SESSIONS {
-            return Err(Refusal::NoSuchSession);
-        }
-        match self.seats[session as usize] {
-            Seat::Closed => Err(Refusal::NotOpen),
-            Seat::Open(account) => Ok(account),
-        }
+        let place = place_of(session)?;
+        self.seats[place].ok_or(Refusal::NotOpen)
     }
 
     // Whether the session can be opened with these terms.
     pub(crate) fn check_open(&self, session: u32, terms: Terms) -> Result<(), Refusal>
         requires { length self.now.seats ≡ 64 }
-        ensures { result ≡ verdict (open_refusal (is_open (seat_at self.now.seats session)) session terms.weight terms.limit) tt }
+        ensures { result ≡ verdict (open_refusal (is_some (seat_at self.now.seats session)) session terms.weight terms.limit) tt }
     {
-        if session >= SESSIONS {
-            return Err(Refusal::NoSuchSession);
-        }
+        let place = place_of(session)?;
         if terms.weight == 0 || terms.weight > 16 {
             return Err(Refusal::BadWeight);
         }
         if terms.limit == 0 || terms.limit > 65535 {
             return Err(Refusal::BadLimit);
         }
-        match self.seats[session as usize] {
-            Seat::Closed => Ok(()),
-            Seat::Open(_) => Err(Refusal::AlreadyOpen),
+        if self.seats[place].is_some() {
+            return Err(Refusal::AlreadyOpen);
         }
+        Ok(())
     }
 
     // Refused while a packet is in service.
@@ -105,10 +97,7 @@ impl Parts {
     pub(crate) fn carried(&self) -> Result<Service, Refusal>
         ensures { result ≡ served (service_of self.now.condition) }
     {
-        match self.in_service() {
-            Some(service) => Ok(service),
-            None => Err(Refusal::NothingInService),
-        }
+        self.in_service().ok_or(Refusal::NothingInService)
     }
 
     // The condition while no packet is in service.
@@ -136,9 +125,9 @@ impl Parts {
     // Opens the session with these terms.
     pub(crate) fn open(&mut self, session: u32, terms: Terms)
         requires { session < length self.old.seats }
-        ensures { self.new ≡ with_seat self.old session (new_seat terms) }
+        ensures { self.new ≡ with_seat self.old session (Some (new_account terms)) }
     {
-        self.seats[session as usize] = Seat::Open(Account { terms, octets: 0 });
+        self.seats[session as usize] = Some(Account::new(terms));
     }
 
     // The packet waits as the last of its session.
@@ -166,16 +155,17 @@ impl Parts {
     // Adds the packet's charge to the octets of its session.
     fn credit(&mut self, service: Service)
         requires { service.session < length self.old.seats }
-        ensures { self.new ≡ with_seat self.old service.session (with_octets (charge service.packet.length) (seat_at self.old.seats service.session)) }
+        ensures { self.new ≡ with_seat self.old service.session (option_map (with_octets (charge service.packet.length)) (seat_at self.old.seats service.session)) }
     {
         let index = service.session as usize;
-        self.seats[index] = self.seats[index].credited(charge(service.packet.length));
+        let amount = charge(service.packet.length);
+        self.seats[index] = self.seats[index].map(|account| account.credited(amount));
     }
 
     // The packet in service leaves, and its session is charged.
     pub(crate) fn finish(&mut self, service: Service)
         requires { service.session < length self.old.seats }
-        ensures { self.new ≡ with_condition (with_seat self.old service.session (with_octets (charge service.packet.length) (seat_at self.old.seats service.session))) (moved self.old.condition Event.Finished (all_waiting self.old.waiting)) }
+        ensures { self.new ≡ with_condition (with_seat self.old service.session (option_map (with_octets (charge service.packet.length)) (seat_at self.old.seats service.session))) (moved self.old.condition Event.Finished (all_waiting self.old.waiting)) }
     {
         self.credit(service);
         self.moves(Event::Finished);

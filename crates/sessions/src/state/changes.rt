@@ -1,5 +1,5 @@
 // The calls that make the sessions and change them.
-ghost use Rattle.std.specs.Prelude.{◌≡◌, Err};
+ghost use Rattle.std.specs.Prelude.{◌≡◌, OnErr};
 ghost use Rattle.sharing.specs.Meanings.{nothing_open, after_open, after_enter};
 ghost use Rattle.sessions.specs.Meanings.{meaning_of};
 ghost use Rattle.sessions.specs.Verdicts.{verdict, settled, why_open, why_put, take_answer, after_take, finish_answer, after_served};
@@ -23,7 +23,7 @@ impl Sessions {
     pub fn open(&mut self, session: u32, weight: u32, limit: u32) -> Result<(), Refusal>
         ensures answer { result ≡ verdict (why_open (meaning_of self.old) session weight limit) tt }
         ensures after { meaning_of self.new ≡ settled (why_open (meaning_of self.old) session weight limit) (meaning_of self.old) (after_open (meaning_of self.old) session weight limit) }
-        ensures refused { (e : Refusal) → result ≡ Err e → self.new ≡ self.old }
+        ensures refused { OnErr result (self.new ≡ self.old) }
     {
         let terms = Terms { weight, limit };
         self.parts.check_open(session, terms)?;
@@ -35,7 +35,7 @@ impl Sessions {
     pub fn put(&mut self, session: u32, packet: Packet) -> Result<(), Refusal>
         ensures answer { result ≡ verdict (why_put (meaning_of self.old) session) tt }
         ensures after { meaning_of self.new ≡ settled (why_put (meaning_of self.old) session) (meaning_of self.old) (after_enter (meaning_of self.old) session packet) }
-        ensures refused { (e : Refusal) → result ≡ Err e → self.new ≡ self.old }
+        ensures refused { OnErr result (self.new ≡ self.old) }
     {
         self.check_put(session)?;
         self.parts.enter(session, packet);
@@ -46,7 +46,7 @@ impl Sessions {
     pub fn take(&mut self, session: u32) -> Result<Service, Refusal>
         ensures answer { result ≡ take_answer (meaning_of self.old) session }
         ensures after { meaning_of self.new ≡ after_take (meaning_of self.old) result }
-        ensures refused { (e : Refusal) → result ≡ Err e → self.new ≡ self.old }
+        ensures refused { OnErr result (self.new ≡ self.old) }
     {
         self.parts.check_free()?;
         let Some(packet) = self.parts.waiting.first(session)? else {
@@ -61,7 +61,7 @@ impl Sessions {
     pub fn finish(&mut self) -> Result<Service, Refusal>
         ensures answer { result ≡ finish_answer (meaning_of self.old) }
         ensures after { meaning_of self.new ≡ after_served (meaning_of self.old) result }
-        ensures refused { (e : Refusal) → result ≡ Err e → self.new ≡ self.old }
+        ensures refused { OnErr result (self.new ≡ self.old) }
     {
         let service = self.parts.carried()?;
         self.parts.finish(service);

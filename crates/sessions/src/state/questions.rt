@@ -1,15 +1,15 @@
 // What can be asked of the sessions. Nothing here changes them.
 ghost use Rattle.std.specs.Prelude.{◌≡◌, ◌≤◌};
+ghost use Rattle.sharing.specs.Rules.{room_beside};
 ghost use Rattle.sharing.specs.Meanings.{waiting_in, all_waiting, terms_answer, count_answer, lengths_answer, octets_answer};
 ghost use Rattle.waiting.specs.Queues.{first_of};
 ghost use Rattle.sessions.specs.Meanings.{meaning_of};
-ghost use Rattle.sessions.specs.Verdicts.{verdict, why_start, why_put, length_answer};
+ghost use Rattle.sessions.specs.Verdicts.{verdict, why_start, why_put, room_answer_at, length_answer};
 
 use crate::state::Sessions;
 use calls::call::{Packet, Service, Terms};
 use calls::refusal::Refusal;
-
-const PLACES: u32 = 256;
+use waiting::table::PLACES;
 
 impl Sessions {
     // Weight and limit of the session. Refused: no such session, not open.
@@ -45,16 +45,15 @@ impl Sessions {
     }
 
     // The first waiting packet of the session, if there is one.
+    #[tactic(auto, using(crate::proofs::Reading::first_asked))]
     pub fn first(&self, session: u32) -> Option<Packet>
         ensures { result ≡ first_of (waiting_in (meaning_of self.now) session) }
     {
-        match self.parts.waiting.first(session) {
-            Ok(first) => first,
-            Err(_) => None,
-        }
+        self.parts.waiting.first(session).ok().flatten()
     }
 
     // How many packets wait in all: at most 256.
+    #[tactic(auto, using(crate::proofs::Reading::all_waiting_is_total))]
     pub fn total(&self) -> u32
         ensures all { result ≡ all_waiting (meaning_of self.now) }
         ensures most { result ≤ 256 }
@@ -80,15 +79,27 @@ impl Sessions {
         Ok(terms)
     }
 
+    // The places that are left beside the waiting packets.
+    pub fn places_left(&self) -> u32
+        ensures { result ≡ room_beside (all_waiting (meaning_of self.now)) }
+    {
+        PLACES - self.total()
+    }
+
+    // Refused while 256 packets wait.
+    #[tactic(auto, using(crate::proofs::Reading::all_waiting_is_total))]
+    pub fn check_room(&self) -> Result<(), Refusal>
+        ensures { result ≡ room_answer_at (all_waiting (meaning_of self.now)) }
+    {
+        self.parts.waiting.check_room()
+    }
+
     // Whether a packet of the session can wait. Refused as `terms` is, and when 256 packets wait.
     pub(crate) fn check_put(&self, session: u32) -> Result<(), Refusal>
         ensures { result ≡ verdict (why_put (meaning_of self.now) session) tt }
     {
         self.terms(session)?;
-        if self.total() >= PLACES {
-            return Err(Refusal::Full);
-        }
-        Ok(())
+        self.check_room()
     }
 
     // Whether a packet can start. Refused while a packet is in service, then when nothing waits.
