@@ -11,6 +11,7 @@ use calls::refusal::Refusal;
 
 impl Sessions {
     // Every session closed, and nothing waits.
+    #[tactic(auto, using(crate::proofs::Keeping::fresh_keeps, crate::proofs::Changing::fresh_meaning), unfolding(crate::specs::Meanings::meaning_of))]
     pub fn new() -> Sessions
         ensures { meaning_of result ≡ nothing_open }
     {
@@ -58,6 +59,7 @@ impl Sessions {
     }
 
     // The packet in service leaves, and its session is charged. Refused: none is in service.
+    #[tactic(auto, using(crate::proofs::Stepping::finish_verdict, crate::proofs::Stepping::finish_below, crate::proofs::Stepping::finished_keeps, crate::proofs::Stepping::finished))]
     pub fn finish(&mut self) -> Result<Service, Refusal>
         ensures answer { result ≡ finish_answer (meaning_of self.old) }
         ensures after { meaning_of self.new ≡ after_served (meaning_of self.old) result }

@@ -13,6 +13,7 @@ use waiting::table::PLACES;
 
 impl Sessions {
     // Weight and limit of the session. Refused: no such session, not open.
+    #[tactic(auto, using(crate::proofs::Reading::asked_open, crate::proofs::Reading::asked_refused))]
     pub fn terms(&self, session: u32) -> Result<Terms, Refusal>
         ensures { result ≡ terms_answer (meaning_of self.now) session }
     {
@@ -21,6 +22,7 @@ impl Sessions {
     }
 
     // What the session's finished packets were charged. Refused as `terms` is.
+    #[tactic(auto, using(crate::proofs::Reading::asked_open, crate::proofs::Reading::asked_refused))]
     pub fn octets(&self, session: u32) -> Result<u64, Refusal>
         ensures { result ≡ octets_answer (meaning_of self.now) session }
     {
@@ -29,6 +31,7 @@ impl Sessions {
     }
 
     // How many packets of the session wait. Refused as `terms` is.
+    #[tactic(auto, using(crate::proofs::Reading::asked_waiting, crate::proofs::Reading::asked_refused))]
     pub fn waiting_count(&self, session: u32) -> Result<u32, Refusal>
         ensures { result ≡ count_answer (meaning_of self.now) session }
     {
@@ -37,6 +40,7 @@ impl Sessions {
     }
 
     // Their lengths together. Refused as `terms` is.
+    #[tactic(auto, using(crate::proofs::Reading::asked_waiting, crate::proofs::Reading::asked_refused, crate::proofs::Reading::sum_of_lengths))]
     pub fn waiting_lengths(&self, session: u32) -> Result<u64, Refusal>
         ensures { result ≡ lengths_answer (meaning_of self.now) session }
     {
@@ -62,6 +66,7 @@ impl Sessions {
     }
 
     // The packet in service with its session, if there is one.
+    #[tactic(auto, unfolding(crate::specs::Meanings::meaning_of))]
     pub fn in_service(&self) -> Option<Service>
         ensures { result ≡ (meaning_of self.now).in_service }
     {
@@ -103,6 +108,7 @@ impl Sessions {
     }
 
     // Whether a packet can start. Refused while a packet is in service, then when nothing waits.
+    #[tactic(auto, using(crate::proofs::Reading::start_from_meaning))]
     pub fn check_start(&self) -> Result<(), Refusal>
         ensures { result ≡ verdict (why_start (meaning_of self.now)) tt }
     {
