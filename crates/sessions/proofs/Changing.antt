@@ -17,7 +17,7 @@ use Rattle.sessions.specs.declared.condition.Event.TheVariants.{Entered, Started
 use Rattle.sessions.specs.declared.parts.Parts.{Parts}
 use Rattle.sessions.specs.Seats.{seat_at, new_account, with_octets, waiting_while_closed, session_of}
 use Rattle.sessions.specs.Conditions.{moved, service_of}
-use Rattle.sessions.specs.Steps.{Fresh, with_seat, with_condition}
+use Rattle.sessions.specs.Steps.{Fresh, Entering, Starting, with_seat, with_condition}
 use Rattle.sessions.specs.Meanings.{meaning_in}
 use Rattle.sessions.proofs.Keeping.{repeated}
 
@@ -128,25 +128,21 @@ module _ (p after : Parts) (s : ℕ) (packets : List Packet) (seats : after.seat
       ∙ ap (session_of (seat_at p.seats k)) (put_other (queue p.waiting) s packets k ne)
 
 pub enter_meaning :
-    (p after : Parts) (s : ℕ) (packet : Packet) → after.seats ≡ p.seats →
-    queue after.waiting ≡ put (queue p.waiting) s (queue p.waiting s ++ packet ∷ []) →
-    after.condition ≡ moved p.condition Entered (all_waiting after.waiting) → meaning_in after ≡ after_enter (meaning_in p) s packet
-enter_meaning p after s packet seats queues condition =
+    (p after : Parts) (s : ℕ) (packet : Packet) → Entering p s packet after → meaning_in after ≡ after_enter (meaning_in p) s packet
+enter_meaning p after s packet is =
     let packets = queue p.waiting s in
     is_with_session (meaning_in p) (meaning_in after) s _ _
-    (queue_here p after s (packets ++ packet ∷ []) seats queues ∙ entered_session (seat_at p.seats s) packets packet)
-    (queue_there p after s (packets ++ packet ∷ []) seats queues)
-    (ap service_of condition ∙ entered_service p.condition (all_waiting after.waiting))
+    (queue_here p after s (packets ++ packet ∷ []) is.seats is.queues ∙ entered_session (seat_at p.seats s) packets packet)
+    (queue_there p after s (packets ++ packet ∷ []) is.seats is.queues)
+    (ap service_of is.condition ∙ entered_service p.condition (all_waiting after.waiting))
 
 pub start_meaning :
-    (p after : Parts) (service : Service) → p.condition ≡ Pausing → after.seats ≡ p.seats →
-    queue after.waiting ≡ after_take (queue p.waiting) service.session →
-    after.condition ≡ moved p.condition (Started service) (all_waiting after.waiting) →
+    (p after : Parts) (service : Service) → p.condition ≡ Pausing → Starting p service after →
     meaning_in after ≡ after_start (meaning_in p) service.session service.packet
-start_meaning p after service paused seats queues condition =
+start_meaning p after service paused is =
     let s = service.session in
     let packets = queue p.waiting s in
     is_with_session (meaning_in p) (meaning_in after) s _ _
-    (queue_here p after s (rest_of packets) seats queues ∙ started_session (seat_at p.seats s) packets)
-    (queue_there p after s (rest_of packets) seats queues)
-    (ap service_of (condition ∙ ap (λ c. moved c (Started service) (all_waiting after.waiting)) paused))
+    (queue_here p after s (rest_of packets) is.seats is.queues ∙ started_session (seat_at p.seats s) packets)
+    (queue_there p after s (rest_of packets) is.seats is.queues)
+    (ap service_of (is.condition ∙ ap (λ c. moved c (Started service) (all_waiting after.waiting)) paused))

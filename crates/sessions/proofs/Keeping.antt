@@ -19,7 +19,7 @@ use Rattle.sessions.specs.declared.parts.Parts.{Parts}
 use Rattle.sessions.specs.declared.state.Sessions.{Sessions}
 use Rattle.sessions.specs.Seats.{seat_at, new_account, with_octets, terms_within, waiting_while_closed}
 use Rattle.sessions.specs.Conditions.{moved, resting, fits, serves_open, free_from, service_of}
-use Rattle.sessions.specs.Steps.{Fresh, with_seat, with_condition}
+use Rattle.sessions.specs.Steps.{Fresh, Entering, Starting, with_seat, with_condition}
 use Rattle.sessions.specs.Invariants.{TermsWithin, ClosedEmpty, ConditionFits, ServesOpen}
 use Rattle.sessions.specs.Verdicts.{verdict, served}
 
@@ -171,7 +171,7 @@ fresh_keeps p new =
 
 module _ (p : Parts) (g : Ghosts p) where
   -- an open seat in the place of another
-  seat_keeps : (s : ℕ) (seat : Option Account) → s < 64 → is_some seat ≡ true → terms_within seat ≡ true → Ghosts (with_seat p s seat)
+  pub seat_keeps : (s : ℕ) (seat : Option Account) → s < 64 → is_some seat ≡ true → terms_within seat ≡ true → Ghosts (with_seat p s seat)
   seat_keeps s seat low opened within =
       let there : s < length p.seats = omega (arith, g.seats) in
       record {
@@ -183,13 +183,6 @@ module _ (p : Parts) (g : Ghosts p) where
         fits = g.fits;
         served = serves_set p.condition p.seats s seat there opened g.served;
       }
-
-  pub open_keeps :
-      (s : ℕ) (terms : Terms) (after : Parts) → Ok (tt {0}) ≡ verdict (open_refusal (is_some (seat_at p.seats s)) s terms.weight terms.limit) (tt {0}) →
-      after ≡ with_seat p s (Some (new_account terms)) → Ghosts after
-  open_keeps s terms after ok is =
-      let can = openable (is_some (seat_at p.seats s)) s terms (no_reason (open_refusal (is_some (seat_at p.seats s)) s terms.weight terms.limit) (tt {0}) (tt {0}) ok) in
-      subst Ghosts (sym is) (seat_keeps s (Some (new_account terms)) can.session refl can.terms)
 
   -- the queues change, and the condition
   queues_keep :
@@ -205,21 +198,19 @@ module _ (p : Parts) (g : Ghosts p) where
   }
 
   pub enter_keeps :
-      (s : ℕ) (packet : Packet) (after : Parts) → s < 64 → is_some (seat_at p.seats s) ≡ true → after.seats ≡ p.seats →
-      queue after.waiting ≡ put (queue p.waiting) s (queue p.waiting s ++ packet ∷ []) →
-      after.condition ≡ moved p.condition Entered (all_waiting after.waiting) → Ghosts after
-  enter_keeps s packet after low opened seats queues condition =
+      (s : ℕ) (packet : Packet) (after : Parts) → s < 64 → is_some (seat_at p.seats s) ≡ true → Entering p s packet after → Ghosts after
+  enter_keeps s packet after low opened is =
       let q = queue p.waiting in
       let n = all_waiting after.waiting in
-      let some : 0 < n = omega (arith, ap total queues, total_push q s packet low) in
-      queues_keep after seats
-      (λ k. ap (λ f. waiting_while_closed (seat_at p.seats k) (f k)) queues ∙
+      let some : 0 < n = omega (arith, ap total is.queues, total_push q s packet low) in
+      queues_keep after is.seats
+      (λ k. ap (λ f. waiting_while_closed (seat_at p.seats k) (f k)) is.queues ∙
       ⊎_elim
       (λ (e : k ≡ s). open_empty (seat_at p.seats k) _ (ap (λ i. is_some (seat_at p.seats i)) e ∙ opened))
       (λ (ne : k ≡ s → ⊥). ap (waiting_while_closed (seat_at p.seats k)) (put_other q s (q s ++ packet ∷ []) k ne) ∙ g.closed k)
       (cases_eq k s))
-      (ap (λ c. fits c n) condition ∙ fits_entered p.condition n some)
-      (ap (λ c. serves_open c p.seats) condition ∙ serves_entered p.condition p.seats n g.served)
+      (ap (λ c. fits c n) is.condition ∙ fits_entered p.condition n some)
+      (ap (λ c. serves_open c p.seats) is.condition ∙ serves_entered p.condition p.seats n g.served)
 
   -- the session has a first packet, and none is in service
   pub must_pause : (s : ℕ) → s < 64 → 0 < length (queue p.waiting s) → Ok (tt {0}) ≡ free_from p.condition → p.condition ≡ Pausing
@@ -228,16 +219,14 @@ module _ (p : Parts) (g : Ghosts p) where
 
   pub start_keeps :
       (service : Service) (after : Parts) → service.session < 64 → 0 < length (queue p.waiting service.session) →
-      Ok (tt {0}) ≡ free_from p.condition → after.seats ≡ p.seats →
-      queue after.waiting ≡ after_take (queue p.waiting) service.session →
-      after.condition ≡ moved p.condition (Started service) (all_waiting after.waiting) → Ghosts after
-  start_keeps service after low some free seats queues condition =
+      Ok (tt {0}) ≡ free_from p.condition → Starting p service after → Ghosts after
+  start_keeps service after low some free is =
       let s = service.session in
       let q = queue p.waiting in
       let n = all_waiting after.waiting in
-      let now : after.condition ≡ Carrying service = condition ∙ ap (λ c. moved c (Started service) n) (must_pause s low some free) in
-      queues_keep after seats
-      (λ k. ap (λ f. waiting_while_closed (seat_at p.seats k) (f k)) queues ∙
+      let now : after.condition ≡ Carrying service = is.condition ∙ ap (λ c. moved c (Started service) n) (must_pause s low some free) in
+      queues_keep after is.seats
+      (λ k. ap (λ f. waiting_while_closed (seat_at p.seats k) (f k)) is.queues ∙
       ⊎_elim
       (λ (e : k ≡ s).
       subst (λ i. waiting_while_closed (seat_at p.seats i) (put q s (rest_of (q s)) i) ≡ 0) (sym e)

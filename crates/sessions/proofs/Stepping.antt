@@ -1,12 +1,12 @@
 -- What the calls answer and make of the meaning, from what their parts ensure.
-use Rattle.std.proofs.Common.{◌≡◌, ℕ, ◌<◌, true, cond, not, ltb, [], ◌∷◌, ◌++◌, length, option_map, is_some as option_is_some, Some, Ok, Err, Option, Result, sym, refl, ap, ◌∙◌, arith}
+use Rattle.std.proofs.Common.{◌≡◌, ℕ, ◌<◌, true, cond, not, ltb, [], ◌∷◌, ◌++◌, length, option_map, is_some as option_is_some, Some, None, Ok, Err, Option, Result, sym, refl, ap, ◌∙◌, subst, arith}
 use Rattle.std.proofs.lemmas.Bool.{cond-true, cond-false, lt-ltb, le-ltb}
 use Rattle.calls.specs.Strides.{charge}
 use Rattle.calls.specs.declared.call.Packet.{Packet}
 use Rattle.calls.specs.declared.call.Service.{Service}
 use Rattle.calls.specs.declared.call.Terms.{Terms}
 use Rattle.calls.specs.declared.refusal.Refusal.{Refusal}
-use Rattle.calls.specs.declared.refusal.Refusal.TheVariants.{NoSuchSession, ServerBusy}
+use Rattle.calls.specs.declared.refusal.Refusal.TheVariants.{NoSuchSession, NothingWaiting, ServerBusy}
 use Rattle.waiting.specs.Queues.{queue, first_of, rest_of, put, first_answer}
 use Rattle.waiting.specs.Queues as queues
 use Rattle.waiting.proofs.Using.{first_some, of_session_ok, of_session_err}
@@ -19,11 +19,11 @@ use Rattle.sessions.specs.declared.parts.Parts.{Parts}
 use Rattle.sessions.specs.declared.state.Sessions.{Sessions}
 use Rattle.sessions.specs.Seats.{seat_at, new_account, with_octets}
 use Rattle.sessions.specs.Conditions.{moved, free_from, service_of}
-use Rattle.sessions.specs.Steps.{with_seat, with_condition}
+use Rattle.sessions.specs.Steps.{Entering, Starting, with_seat, with_condition}
 use Rattle.sessions.specs.Meanings.{meaning_in, meaning_of}
 use Rattle.sessions.specs.Verdicts.{verdict, settled, why_open, why_put, taken, take_answer, served, finish_answer}
 use Rattle.sessions.proofs.Reading.{open_is_some, waiting_is_queue, all_waiting_is_total}
-use Rattle.sessions.proofs.Keeping.{Ghosts, ghosts, no_reason, the_reason, openable, must_pause, carrying, serves_below, enter_keeps, start_keeps, finish_keeps}
+use Rattle.sessions.proofs.Keeping.{Ghosts, ghosts, no_reason, the_reason, Openable, openable, seat_keeps, must_pause, carrying, serves_below, enter_keeps, start_keeps, finish_keeps}
 use Rattle.sessions.proofs.Using.{Puttable, put_parts}
 use Rattle.sessions.proofs.Changing.{open_meaning, enter_meaning, start_meaning, finish_meaning}
 
@@ -38,23 +38,38 @@ stays why value before after e refused = sym (ap (λ w. settled w before after) 
 
 -- ---- open
 
-module _ (x : Sessions) (s : ℕ) (terms : Terms) where
+module _ (x : Sessions) (s weight limit : ℕ) where
+  abbrev terms : Terms
+  terms = record { weight = weight; limit = limit }
+
   pub open_verdict :
-      verdict (open_refusal (option_is_some (seat_at x.parts.seats s)) s terms.weight terms.limit) (tt {0}) ≡
-      verdict (why_open (meaning_of x) s terms.weight terms.limit) (tt {0})
+      verdict (open_refusal (option_is_some (seat_at x.parts.seats s)) s weight limit) (tt {0}) ≡
+      verdict (why_open (meaning_of x) s weight limit) (tt {0})
   unfolding meaning_of
   open_verdict =
-      ap (λ b. verdict (open_refusal b s terms.weight terms.limit) (tt {0}))
+      ap (λ b. verdict (open_refusal b s weight limit) (tt {0}))
       (sym (open_is_some (seat_at x.parts.seats s) (queue x.parts.waiting s)))
 
-  pub opened :
-      (y : Sessions) → Ok (tt {0}) ≡ verdict (open_refusal (option_is_some (seat_at x.parts.seats s)) s terms.weight terms.limit) (tt {0}) →
-      y.parts ≡ with_seat x.parts s (Some (new_account terms)) → meaning_of y ≡ after_open (meaning_of x) s terms.weight terms.limit
-  unfolding meaning_of
-  opened y ok is =
-      let can = openable (option_is_some (seat_at x.parts.seats s)) s terms
-      (no_reason (open_refusal (option_is_some (seat_at x.parts.seats s)) s terms.weight terms.limit) (tt {0}) (tt {0}) ok) in
-      open_meaning x.parts y.parts s terms (omega (arith, can.session, x.seats)) can.closed (x.closed s) is
+  module _ (ok : Ok (tt {0}) ≡ verdict (why_open (meaning_of x) s weight limit) (tt {0})) where
+    can_open : Openable (option_is_some (seat_at x.parts.seats s)) s terms
+    can_open =
+        openable (option_is_some (seat_at x.parts.seats s)) s terms
+        (no_reason (open_refusal (option_is_some (seat_at x.parts.seats s)) s weight limit) (tt {0}) (tt {0}) (ok ∙ sym open_verdict))
+
+    pub open_below : s < length x.parts.seats
+    open_below = omega (arith, can_open.session, x.seats)
+
+    pub open_keeps : (after : Parts) → after ≡ with_seat x.parts s (Some (new_account terms)) → Ghosts after
+    open_keeps after is =
+        subst Ghosts (sym is) (seat_keeps x.parts (ghosts x) s (Some (new_account terms)) can_open.session refl can_open.terms)
+
+    pub opened : (y : Sessions) → y.parts ≡ with_seat x.parts s (Some (new_account terms)) →
+        meaning_of y ≡ settled (why_open (meaning_of x) s weight limit) (meaning_of x) (after_open (meaning_of x) s weight limit)
+    unfolding meaning_of
+    opened y is =
+        settles (why_open (meaning_of x) s weight limit) (tt {0}) (tt {0}) (meaning_of x)
+        (after_open (meaning_of x) s weight limit) (meaning_of y) ok
+        (open_meaning x.parts y.parts s terms open_below can_open.closed (x.closed s) is)
 
 -- ---- put
 
@@ -72,19 +87,15 @@ module _ (x : Sessions) (s : ℕ) (ok : Ok (tt {0}) ≡ verdict (why_put (meanin
   pub put_room : queues.all_waiting x.parts.waiting < 256
   put_room = omega (arith, all_waiting_is_total x, can_put.room)
 
-  pub put_keeps :
-      (packet : Packet) (after : Parts) → after.seats ≡ x.parts.seats →
-      queue after.waiting ≡ put (queue x.parts.waiting) s (queue x.parts.waiting s ++ packet ∷ []) →
-      after.condition ≡ moved x.parts.condition Entered (queues.all_waiting after.waiting) → Ghosts after
-  put_keeps packet after seats queue condition = enter_keeps x.parts (ghosts x) s packet after put_below put_open seats queue condition
+  pub put_keeps : (packet : Packet) (after : Parts) → Entering x.parts s packet after → Ghosts after
+  put_keeps packet after is = enter_keeps x.parts (ghosts x) s packet after put_below put_open is
 
-pub entered :
-    (x y : Sessions) (s : ℕ) (packet : Packet) → y.parts.seats ≡ x.parts.seats →
-    queue y.parts.waiting ≡ put (queue x.parts.waiting) s (queue x.parts.waiting s ++ packet ∷ []) →
-    y.parts.condition ≡ moved x.parts.condition Entered (queues.all_waiting y.parts.waiting) →
-    meaning_of y ≡ after_enter (meaning_of x) s packet
-unfolding meaning_of
-entered x y s packet seats queue condition = enter_meaning x.parts y.parts s packet seats queue condition
+  pub entered : (y : Sessions) (packet : Packet) → Entering x.parts s packet y.parts →
+      meaning_of y ≡ settled (why_put (meaning_of x) s) (meaning_of x) (after_enter (meaning_of x) s packet)
+  unfolding meaning_of
+  entered y packet is =
+      settles (why_put (meaning_of x) s) (tt {0}) (tt {0}) (meaning_of x) (after_enter (meaning_of x) s packet) (meaning_of y) ok
+      (enter_meaning x.parts y.parts s packet is)
 
 -- ---- take
 
@@ -122,6 +133,9 @@ module _ (x : Sessions) (s : ℕ) where
         ap (taken s) (sym ok.1 ∙ ap first_of (sym (waiting_is_queue x s)))
         ∙ sym (cond-true (ltb s 64) (taken s (first_of (waiting_in (meaning_of x) s))) (Err NoSuchSession) (lt-ltb s 64 ok.0)) ∙ take_free
 
+    pub take_none : (o : Option Packet) → Ok o ≡ first_answer (queue x.parts.waiting) s → o ≡ None → Err NothingWaiting ≡ take_answer (meaning_of x) s
+    take_none o is none = ap (taken s) (sym none) ∙ take_first o is
+
     module _ (o : Option Packet) (packet : Packet) (answer : Ok o ≡ first_answer (queue x.parts.waiting) s) (is_some : o ≡ Some packet) where
       found : (s < 64) × (queue x.parts.waiting s ≡ packet ∷ rest_of (queue x.parts.waiting s))
       found = first_some (queue x.parts.waiting) s packet (sym answer ∙ ap Ok is_some)
@@ -135,17 +149,15 @@ module _ (x : Sessions) (s : ℕ) where
       take_some : 0 < length (queue x.parts.waiting s)
       take_some = omega (arith, ap length found.1)
 
-      module _ (after : Parts) (seats : after.seats ≡ x.parts.seats)
-          (emptied : queue after.waiting ≡ queues.after_take (queue x.parts.waiting) s)
-          (condition : after.condition ≡ moved x.parts.condition (Started (record { session = s; packet = packet })) (queues.all_waiting after.waiting)) where
+      module _ (after : Parts) (is : Starting x.parts (record { session = s; packet = packet }) after) where
         pub take_keeps : Ghosts after
-        take_keeps = start_keeps x.parts (ghosts x) (record { session = s; packet = packet }) after take_low take_some idle seats emptied condition
+        take_keeps = start_keeps x.parts (ghosts x) (record { session = s; packet = packet }) after take_low take_some idle is
 
         pub took : (y : Sessions) → y.parts ≡ after → meaning_of y ≡ after_start (meaning_of x) s packet
         unfolding meaning_of
-        took y is =
-            ap meaning_in is
-            ∙ start_meaning x.parts after (record { session = s; packet = packet }) (must_pause x.parts (ghosts x) s take_low take_some idle) seats emptied condition
+        took y same =
+            ap meaning_in same
+            ∙ start_meaning x.parts after (record { session = s; packet = packet }) (must_pause x.parts (ghosts x) s take_low take_some idle) is
 
 -- ---- finish
 

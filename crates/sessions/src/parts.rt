@@ -5,7 +5,7 @@ ghost use Rattle.sharing.specs.Rules.{open_refusal};
 ghost use Rattle.waiting.specs.Queues.{queue, all_waiting, put, after_take};
 ghost use Rattle.sessions.specs.Seats.{seat_at, account_at, new_account, with_octets};
 ghost use Rattle.sessions.specs.Conditions.{moved, resting, free_from, start_from, service_of};
-ghost use Rattle.sessions.specs.Steps.{Fresh, with_seat, with_condition};
+ghost use Rattle.sessions.specs.Steps.{Fresh, Entering, Starting, with_seat, with_condition};
 ghost use Rattle.sessions.specs.Verdicts.{verdict, served};
 
 use crate::condition::{Condition, Event};
@@ -134,9 +134,7 @@ impl Parts {
     pub(crate) fn enter(&mut self, session: u32, packet: Packet)
         requires number { session < 64 }
         requires room { all_waiting self.old.waiting < 256 }
-        ensures seats { self.new.seats ≡ self.old.seats }
-        ensures queues { queue self.new.waiting ≡ put (queue self.old.waiting) session (queue self.old.waiting session ++ packet ∷ []) }
-        ensures condition { self.new.condition ≡ moved self.old.condition Event.Entered (all_waiting self.new.waiting) }
+        ensures { Entering self.old session packet self.new }
     {
         let _ = self.waiting.put_last(session, packet);
         self.moves(Event::Entered);
@@ -144,9 +142,7 @@ impl Parts {
 
     // The first waiting packet of the session goes into service.
     pub(crate) fn start(&mut self, service: Service)
-        ensures seats { self.new.seats ≡ self.old.seats }
-        ensures queues { queue self.new.waiting ≡ after_take (queue self.old.waiting) service.session }
-        ensures condition { self.new.condition ≡ moved self.old.condition (Event.Started service) (all_waiting self.new.waiting) }
+        ensures { Starting self.old service self.new }
     {
         let _ = self.waiting.take_first(service.session);
         self.moves(Event::Started(service));

@@ -21,18 +21,20 @@ impl Sessions {
     }
 
     // Opens the session. Refused: no such session, a wrong weight, a wrong limit, open already.
+    #[tactic(auto, using(crate::proofs::Stepping::opened, crate::proofs::Stepping::stays, crate::proofs::Stepping::open_below, crate::proofs::Stepping::open_keeps))]
     pub fn open(&mut self, session: u32, weight: u32, limit: u32) -> Result<(), Refusal>
         ensures answer { result ≡ verdict (why_open (meaning_of self.old) session weight limit) tt }
         ensures after { meaning_of self.new ≡ settled (why_open (meaning_of self.old) session weight limit) (meaning_of self.old) (after_open (meaning_of self.old) session weight limit) }
         ensures refused { OnErr result (self.new ≡ self.old) }
     {
         let terms = Terms { weight, limit };
-        self.parts.check_open(session, terms)?;
+        self.check_open(session, terms)?;
         self.parts.open(session, terms);
         Ok(())
     }
 
     // The packet waits as the last of its session. Refused: no such session, not open, 256 packets wait.
+    #[tactic(auto, using(crate::proofs::Stepping::put_below, crate::proofs::Stepping::put_room, crate::proofs::Stepping::put_keeps, crate::proofs::Stepping::entered, crate::proofs::Stepping::stays))]
     pub fn put(&mut self, session: u32, packet: Packet) -> Result<(), Refusal>
         ensures answer { result ≡ verdict (why_put (meaning_of self.old) session) tt }
         ensures after { meaning_of self.new ≡ settled (why_put (meaning_of self.old) session) (meaning_of self.old) (after_enter (meaning_of self.old) session packet) }
@@ -44,6 +46,7 @@ impl Sessions {
     }
 
     // The first waiting packet of the session goes into service. Refused: a packet is in service, no such session, it has no packet.
+    #[tactic(auto, using(crate::proofs::Stepping::take_busy, crate::proofs::Stepping::take_past, crate::proofs::Stepping::take_none, crate::proofs::Stepping::take_ok, crate::proofs::Stepping::take_keeps, crate::proofs::Stepping::took))]
     pub fn take(&mut self, session: u32) -> Result<Service, Refusal>
         ensures answer { result ≡ take_answer (meaning_of self.old) session }
         ensures after { meaning_of self.new ≡ after_take (meaning_of self.old) result }

@@ -4,7 +4,7 @@ ghost use Rattle.sharing.specs.Rules.{room_beside};
 ghost use Rattle.sharing.specs.Meanings.{waiting_in, all_waiting, terms_answer, count_answer, lengths_answer, octets_answer};
 ghost use Rattle.waiting.specs.Queues.{first_of};
 ghost use Rattle.sessions.specs.Meanings.{meaning_of};
-ghost use Rattle.sessions.specs.Verdicts.{verdict, why_start, why_put, room_answer_at, length_answer};
+ghost use Rattle.sessions.specs.Verdicts.{verdict, why_open, why_start, why_put, room_answer_at, length_answer};
 
 use crate::state::Sessions;
 use calls::call::{Packet, Service, Terms};
@@ -97,6 +97,14 @@ impl Sessions {
         ensures { result ≡ room_answer_at (all_waiting (meaning_of self.now)) }
     {
         self.parts.waiting.check_room()
+    }
+
+    // Whether the session can be opened with these terms. Refused: no such session, a wrong weight, a wrong limit, open already.
+    #[tactic(auto, using(crate::proofs::Stepping::open_verdict))]
+    pub(crate) fn check_open(&self, session: u32, terms: Terms) -> Result<(), Refusal>
+        ensures { result ≡ verdict (why_open (meaning_of self.now) session terms.weight terms.limit) tt }
+    {
+        self.parts.check_open(session, terms)
     }
 
     // Whether a packet of the session can wait. Refused as `terms` is, and when 256 packets wait.
