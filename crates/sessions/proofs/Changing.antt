@@ -7,7 +7,7 @@ use Rattle.calls.specs.Strides.{charge}
 use Rattle.calls.specs.declared.call.Packet.{Packet}
 use Rattle.calls.specs.declared.call.Service.{Service}
 use Rattle.calls.specs.declared.call.Terms.{Terms}
-use Rattle.waiting.specs.Queues.{queue, all_waiting, put, rest_of, after_take}
+use Rattle.waiting.specs.Queues.{queue, all_waiting, put, rest_of}
 use Rattle.waiting.proofs.Using.{put_here, put_other}
 use Rattle.sharing.specs.Meanings.{Meaning, Session, nothing_open, with_session, with_waiting, after_first, credited, after_open, after_enter, after_start, after_finish}
 use Rattle.sessions.specs.declared.seat.Account.{Account}

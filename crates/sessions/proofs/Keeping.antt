@@ -8,7 +8,7 @@ use Rattle.calls.specs.declared.call.Service.{Service}
 use Rattle.calls.specs.declared.call.Terms.{Terms}
 use Rattle.calls.specs.declared.refusal.Refusal.{Refusal}
 use Rattle.calls.specs.declared.refusal.Refusal.TheVariants.{NoSuchSession, BadWeight, BadLimit, AlreadyOpen}
-use Rattle.waiting.specs.Queues.{queue, total, all_waiting, put, rest_of, after_take}
+use Rattle.waiting.specs.Queues.{queue, total, all_waiting, put, rest_of}
 use Rattle.waiting.proofs.Using.{put_here, put_other, total_no_packets, total_push, count_within_total}
 use Rattle.sharing.specs.Rules.{check, open_refusal}
 use Rattle.sessions.specs.declared.seat.Account.{Account}
@@ -17,7 +17,7 @@ use Rattle.sessions.specs.declared.condition.Condition.TheVariants.{Idle, Pausin
 use Rattle.sessions.specs.declared.condition.Event.TheVariants.{Entered, Started, Finished}
 use Rattle.sessions.specs.declared.parts.Parts.{Parts}
 use Rattle.sessions.specs.declared.state.Sessions.{Sessions}
-use Rattle.sessions.specs.Seats.{seat_at, new_account, with_octets, terms_within, waiting_while_closed}
+use Rattle.sessions.specs.Seats.{seat_at, with_octets, terms_within, waiting_while_closed}
 use Rattle.sessions.specs.Conditions.{moved, resting, fits, serves_open, free_from, service_of}
 use Rattle.sessions.specs.Steps.{Fresh, Entering, Starting, with_seat, with_condition}
 use Rattle.sessions.specs.Invariants.{TermsWithin, ClosedEmpty, ConditionFits, ServesOpen}

@@ -1,5 +1,5 @@
 -- What the calls answer and make of the meaning, from what their parts ensure.
-use Rattle.std.proofs.Common.{◌≡◌, ℕ, ◌<◌, true, cond, not, ltb, [], ◌∷◌, ◌++◌, length, option_map, is_some as option_is_some, Some, None, Ok, Err, Option, Result, sym, refl, ap, ◌∙◌, subst, arith}
+use Rattle.std.proofs.Common.{◌≡◌, ℕ, ◌<◌, true, cond, not, ltb, ◌∷◌, length, option_map, is_some as option_is_some, Some, None, Ok, Err, Option, Result, sym, refl, ap, ◌∙◌, subst, arith}
 use Rattle.std.proofs.lemmas.Bool.{cond-true, cond-false, lt-ltb, le-ltb}
 use Rattle.calls.specs.Strides.{charge}
 use Rattle.calls.specs.declared.call.Packet.{Packet}
@@ -14,7 +14,7 @@ use Rattle.sharing.specs.Rules.{open_refusal}
 use Rattle.sharing.specs.Meanings.{waiting_in, after_open, after_enter, after_start, after_finish}
 use Rattle.sessions.specs.declared.condition.Condition.{Condition}
 use Rattle.sessions.specs.declared.condition.Condition.TheVariants.{Idle, Pausing, Carrying}
-use Rattle.sessions.specs.declared.condition.Event.TheVariants.{Entered, Started, Finished}
+use Rattle.sessions.specs.declared.condition.Event.TheVariants.{Finished}
 use Rattle.sessions.specs.declared.parts.Parts.{Parts}
 use Rattle.sessions.specs.declared.state.Sessions.{Sessions}
 use Rattle.sessions.specs.Seats.{seat_at, new_account, with_octets}
@@ -87,15 +87,17 @@ module _ (x : Sessions) (s : ℕ) (ok : Ok (tt {0}) ≡ verdict (why_put (meanin
   pub put_room : queues.all_waiting x.parts.waiting < 256
   put_room = omega (arith, all_waiting_is_total x, can_put.room)
 
-  pub put_keeps : (packet : Packet) (after : Parts) → Entering x.parts s packet after → Ghosts after
-  put_keeps packet after is = enter_keeps x.parts (ghosts x) s packet after put_below put_open is
-
   pub entered : (y : Sessions) (packet : Packet) → Entering x.parts s packet y.parts →
       meaning_of y ≡ settled (why_put (meaning_of x) s) (meaning_of x) (after_enter (meaning_of x) s packet)
   unfolding meaning_of
   entered y packet is =
       settles (why_put (meaning_of x) s) (tt {0}) (tt {0}) (meaning_of x) (after_enter (meaning_of x) s packet) (meaning_of y) ok
       (enter_meaning x.parts y.parts s packet is)
+
+pub put_keeps :
+    (x : Sessions) (s : ℕ) (packet : Packet) (after : Parts) → Entering x.parts s packet after →
+    Ok (tt {0}) ≡ verdict (why_put (meaning_of x) s) (tt {0}) → Ghosts after
+put_keeps x s packet after is ok = enter_keeps x.parts (ghosts x) s packet after (put_below x s ok) (put_open x s ok) is
 
 -- ---- take
 

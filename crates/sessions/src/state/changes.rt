@@ -34,7 +34,7 @@ impl Sessions {
     }
 
     // The packet waits as the last of its session. Refused: no such session, not open, 256 packets wait.
-    #[tactic(auto, using(crate::proofs::Stepping::put_below, crate::proofs::Stepping::put_room, crate::proofs::Stepping::put_keeps, crate::proofs::Stepping::entered, crate::proofs::Stepping::stays))]
+    #[tactic(auto, using(crate::proofs::Stepping::put_below, crate::proofs::Stepping::put_room, crate::proofs::Stepping::entered, crate::proofs::Stepping::stays))]
     pub fn put(&mut self, session: u32, packet: Packet) -> Result<(), Refusal>
         ensures answer { result ≡ verdict (why_put (meaning_of self.old) session) tt }
         ensures after { meaning_of self.new ≡ settled (why_put (meaning_of self.old) session) (meaning_of self.old) (after_enter (meaning_of self.old) session packet) }
