@@ -1,5 +1,5 @@
 -- What the calls make of a line of first come.
-use Rattle.std.specs.Prelude.{◌≡◌, ℕ, zero, suc, ◌+◌, ◌%◌, ◌<◌, List, [], ◌∷◌, ◌++◌, length, Some, None, Ok, Err, count_by, Result, ◌≢◌, nat_eq, nat_le, nat_lt, slice_index, refl}
+use Rattle.std.specs.Prelude.{◌≡◌, ℕ, zero, suc, ◌+◌, ◌%◌, ◌<◌, Bool, true, false, cond, List, [], ◌∷◌, ◌++◌, length, Some, None, Ok, Err, count_by, Result, ◌≢◌, nat_eq, nat_le, nat_lt, slice_index, refl}
 use Rattle.std.proofs.Math.Path.{sym, ap, subst}
 use Rattle.std.proofs.Common.{◌∙◌, add-one, arith}
 use Rattle.std.proofs.lemmas.List.{length-set}
@@ -14,7 +14,7 @@ use Rattle.sharing.specs.Rules.{check, room_beside}
 use Rattle.sharing.specs.Meanings.{Meaning, nothing_open, waiting_in, all_waiting, after_open, after_enter, after_start}
 use Rattle.sessions.specs.declared.state.Sessions.{Sessions}
 use Rattle.sessions.specs.Meanings.{meaning_of}
-use Rattle.sessions.specs.Verdicts.{settled, why_open, after_served, why_put, why_start, length_answer, take_answer, after_take}
+use Rattle.sessions.specs.Verdicts.{verdict, settled, room_answer_at, why_open, after_served, why_put, why_start, length_answer, take_answer, after_take}
 use Rattle.sessions.proofs.Using.{accepted, enterable, enter_by_room_and_reach, open_in_order, same_all_waiting, settled_open_waiting, served_waiting, enter_all_waiting, start_all_waiting, puttable, startable, takeable, nothing_waits, Puttable, put_parts, waits_below_64}
 use Rattle.sessions.proofs.Generals.{Chosen}
 use Rattle.first_come.specs.declared.ring.Ring.{Ring}
@@ -88,6 +88,24 @@ enter_passes x s n terms is room =
     enter_by_room_and_reach m s n 0 (room_in m) reach_in terms is
     ∙ cond-true (nat_lt 0 (room_beside (all_waiting m))) left (Some Full) (lt-ltb 0 (room_beside (all_waiting m)) (omega arith))
     ∙ cond-true (nat_le n 65535) None (Some OutOfReach) (le-leb n 65535 (omega arith))
+
+checked : (b : Bool) → ◌≡◌ {A = Result (Unit {0}) Refusal} (cond b (Ok tt) (Err Full)) (verdict (check b Full None) tt)
+checked true = refl
+checked false = refl
+
+-- where the length passes, room alone decides
+pub enter_checks :
+    (x : FirstCome) (s n : ℕ) (terms : Terms) → Ok terms ≡ length_answer (meaning_of x.sessions) s n →
+    room_answer_at (all_waiting (meaning_of x.sessions)) ≡ verdict (why (meaning_of x.sessions) (Enter s n 0)) tt
+enter_checks x s n terms is =
+    let m = meaning_of x.sessions in
+    let can = enterable m s n 0 terms is in
+    let order = open_in_order x.sessions s can.account can.is_open in
+    let some = nat_lt 0 (room_beside (all_waiting m)) in
+    let short : check (nat_le n 65535) OutOfReach None ≡ None = cond-true (nat_le n 65535) None (Some OutOfReach) (le-leb n 65535 (omega arith)) in
+    checked some
+    ∙ ap (λ o. verdict (check some Full o) (tt {0})) (sym short)
+    ∙ sym (ap (λ o. verdict o (tt {0})) (enter_by_room_and_reach m s n 0 (room_in m) reach_in terms is))
 
 pub enter_puts : (m : Meaning) (s n ticket : ℕ) → why m (Enter s n ticket) ≡ None → why_put m s ≡ None
 enter_puts m s n ticket none =

@@ -2,7 +2,7 @@
 ghost use Rattle.std.specs.Prelude.{◌≡◌, ◌<◌, ◌≤◌, length, slice_index};
 ghost use Rattle.first_come.specs.Rings.{Fresh, advanced, appended};
 
-pub(crate) const PLACES: u32 = 256;
+use waiting::table::PLACES;
 
 // The first entry stands at `head`, the others behind it. How many there are is known elsewhere.
 #[derive(Drop)]

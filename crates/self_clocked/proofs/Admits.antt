@@ -11,10 +11,10 @@ use Rattle.sharing.specs.Meanings.{Session, all_waiting, if_open, terms_answer, 
 use Rattle.sharing.specs.Clocked.{Clocked}
 use Rattle.sharing.proofs.Pending.{terms_in}
 use Rattle.sharing.proofs.Reaches.{within_reach}
-use Rattle.sessions.specs.Verdicts.{verdict, length_answer}
+use Rattle.sessions.specs.Verdicts.{verdict, room_answer_at, length_answer}
 use Rattle.sessions.proofs.Using.{InOrder, enterable, enter_by_room_and_reach}
 use Rattle.self_clocked.specs.Exact.{weight_at, room_of, reach_of, enter_answer}
-use Rattle.self_clocked.specs.Marks.{room_answer_at, under_ceiling, mark_answer, reach_answer_at}
+use Rattle.self_clocked.specs.Marks.{under_ceiling, mark_answer, reach_answer_at}
 
 ok_passes : {A : Type 0} (b : Bool) (value : A) (others : Result A Refusal) (reason : Refusal) → Ok value ≡ cond b others (Err reason) → (b ≡ true) × (Ok value ≡ others)
 ok_passes true value others reason is = (refl, is)

@@ -1,6 +1,7 @@
 // The state of a self-clocked line.
 ghost use Rattle.std.specs.Prelude.{◌≡◌, length};
 
+use calls::session::SESSIONS;
 use sessions::state::Sessions;
 
 pub mod as_discipline;
@@ -13,7 +14,7 @@ pub mod preview;
 pub struct SelfClocked<R: Drop> {
     sessions: Sessions,
     clock: u64,
-    lasts: [u64; 64],
+    lasts: [u64; SESSIONS as usize],
     ready: R,
     ghost marks: { length lasts ≡ 64 },
 }

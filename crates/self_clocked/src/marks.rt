@@ -1,6 +1,6 @@
 // Marks, and how long a packet may be.
-ghost use Rattle.std.specs.Prelude.{◌≡◌, ◌/◌, ◌<◌, min, max};
-ghost use Rattle.self_clocked.specs.Marks.{mark_answer, under_ceiling, reach_answer_at};
+ghost use Rattle.std.specs.Prelude.{◌≡◌, ◌/◌, ◌<◌, min};
+ghost use Rattle.self_clocked.specs.Marks.{mark_answer_from, under_ceiling, reach_answer_from};
 
 use calls::refusal::Refusal;
 use calls::stride::{charge, stride};
@@ -10,13 +10,6 @@ const CEILING: u64 = 9_223_372_036_854_775_807;
 
 // No packet is longer.
 const LONGEST: u64 = 65_535;
-
-// What a mark counts from: the last mark of the session or the clock, whichever is larger.
-fn base(last: u64, clock: u64) -> u64
-    ensures { result ≡ max last clock }
-{
-    last.max(clock)
-}
 
 // Refuses a mark above the ceiling.
 fn check_ceiling(mark: u64) -> Result<u64, Refusal>
@@ -28,13 +21,13 @@ fn check_ceiling(mark: u64) -> Result<u64, Refusal>
     Ok(mark)
 }
 
-// The mark of a packet of this length.
-pub(crate) fn mark(last: u64, clock: u64, length: u32, weight: u32) -> Result<u64, Refusal>
-    ensures { result ≡ mark_answer last clock length weight }
+// The mark of a packet of this length, counted from this base.
+pub(crate) fn mark(base: u64, length: u32, weight: u32) -> Result<u64, Refusal>
+    ensures { result ≡ mark_answer_from base length weight }
 {
     let stride = stride(weight)?;
     let step = charge(length) * u64::from(stride);
-    check_ceiling(base(last, clock).saturating_add(step))
+    check_ceiling(base.saturating_add(step))
 }
 
 // How many octets of this stride fit into what is left below the ceiling, up to 65,535.
@@ -45,11 +38,11 @@ fn octets_within(left: u64, stride: u32) -> u32
     (left / u64::from(stride)).min(LONGEST) as u32
 }
 
-// The longest length up to 65,535 whose mark is not above the ceiling, or 0.
-pub(crate) fn reach(last: u64, clock: u64, weight: u32) -> Result<u32, Refusal>
-    ensures { result ≡ reach_answer_at last clock weight }
+// The longest length up to 65,535 whose mark from this base is not above the ceiling, or 0.
+pub(crate) fn reach(base: u64, weight: u32) -> Result<u32, Refusal>
+    ensures { result ≡ reach_answer_from base weight }
 {
     let stride = stride(weight)?;
-    let left = CEILING.saturating_sub(base(last, clock));
+    let left = CEILING.saturating_sub(base);
     Ok(octets_within(left, stride))
 }

@@ -11,7 +11,7 @@ ghost use Rattle.sessions.proofs.Generals.{refused_leaves};
 ghost use Rattle.sessions.proofs.Using.{open_in_order, at_most_256};
 
 use crate::line::FirstCome;
-use crate::ring::{PLACES, Ring};
+use crate::ring::Ring;
 use calls::call::{Packet, Service, Terms};
 use calls::refusal::Refusal;
 use discipline::discipline::Discipline;
@@ -42,14 +42,12 @@ impl FirstCome {
     }
 
     // Whether the session may enter a packet of this length. The ticket plays no part.
+    #[tactic(auto, using(crate::specs::Stepping::enter_checks))]
     fn check_enter(&self, session: u32, length: u32) -> Result<(), Refusal>
         ensures { result ≡ verdict (why (meaning_of self.now.sessions) (Enter session length 0)) tt }
     {
         self.sessions.check_length(session, length)?;
-        if self.sessions.total() >= PLACES {
-            return Err(Refusal::Full);
-        }
-        Ok(())
+        self.sessions.check_room()
     }
 
     // The packet waits as the last of its session, and is the latest arrival.
@@ -132,7 +130,7 @@ impl Discipline for FirstCome {
 
     fn room(&self, session: u32) -> Result<u32, Refusal> {
         self.sessions.terms(session)?;
-        Ok(PLACES - self.sessions.total())
+        Ok(self.sessions.places_left())
     }
 
     fn reach(&self, session: u32) -> Result<u32, Refusal> {

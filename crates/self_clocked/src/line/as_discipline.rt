@@ -61,9 +61,7 @@ impl<R: ReadyLine + Drop> Discipline for SelfClocked<R> {
 
     fn start(&mut self) -> Result<Service, Refusal> {
         self.sessions.check_start()?;
-        let Some((mark, session)) = self.ready.drop_least() else {
-            return Err(Refusal::NothingWaiting);
-        };
+        let (mark, session) = self.ready.drop_least().ok_or(Refusal::NothingWaiting)?;
         self.serve(mark, session)
     }
 
@@ -91,12 +89,12 @@ impl<R: ReadyLine + Drop> Discipline for SelfClocked<R> {
 
     fn room(&self, session: u32) -> Result<u32, Refusal> {
         self.sessions.terms(session)?;
-        Ok(self.places_left())
+        Ok(self.sessions.places_left())
     }
 
     fn reach(&self, session: u32) -> Result<u32, Refusal> {
         let terms = self.sessions.terms(session)?;
-        reach(self.lasts[session as usize], self.clock, terms.weight)
+        reach(self.base(session), terms.weight)
     }
 
     fn in_service(&self) -> Option<Service> {

@@ -1,25 +1,21 @@
 // The checks of a self-clocked line, and the changes that its calls are made of.
-ghost use Rattle.std.specs.Prelude.{◌≡◌, replicate, if◌then◌else◌, None, Ok, nat_eq};
+ghost use Rattle.std.specs.Prelude.{◌≡◌, ◌<◌, max, replicate, if◌then◌else◌, None, Ok, nat_eq};
 ghost use Rattle.waiting.specs.Queues.{first_of};
 ghost use Rattle.ready.specs.Tags.{no_entries};
-ghost use Rattle.sharing.specs.Rules.{room_beside};
 ghost use Rattle.sharing.specs.Meanings.{all_waiting, waiting_in};
 ghost use Rattle.sharing.specs.Clocked.{while_waiting};
 ghost use Rattle.sessions.specs.Meanings.{meaning_of};
 ghost use Rattle.sessions.specs.Verdicts.{why_put, taken};
 ghost use Rattle.self_clocked.specs.Exact.{enter_answer, entered_at, started_at, with_first, renewed, renew_answer, first_marks, Due, Fresh};
-ghost use Rattle.self_clocked.specs.Marks.{room_answer_at};
-ghost use Rattle.self_clocked.specs.States.{state};
+ghost use Rattle.self_clocked.specs.States.{state, last_in};
 
 use crate::line::SelfClocked;
 use crate::marks::mark;
 use calls::call::{Packet, Service};
 use calls::refusal::Refusal;
+use calls::session::SESSIONS;
 use ready::line::ReadyLine;
 use sessions::state::Sessions;
-
-// How many packets may wait, of all sessions together.
-const PLACES: u32 = 256;
 
 // A ready line with no entries, whatever it had.
 fn cleared<R: ReadyLine>(mut ready: R) -> R
@@ -52,26 +48,17 @@ impl<R: ReadyLine + Drop> SelfClocked<R> {
         SelfClocked {
             sessions: Sessions::new(),
             clock: 0,
-            lasts: [0; 64],
+            lasts: [0; SESSIONS as usize],
             ready: cleared(ready),
         }
     }
 
-    // The places that are left beside the waiting packets.
-    pub(crate) fn places_left(&self) -> u32
-        ensures { result ≡ room_beside (all_waiting (meaning_of self.now.sessions)) }
+    // What the session's next mark counts from: its last mark or the clock, whichever is larger.
+    pub(crate) fn base(&self, session: u32) -> u64
+        requires { session < 64 }
+        ensures { result ≡ max (last_in self.now.lasts session) self.now.clock }
     {
-        PLACES.saturating_sub(self.sessions.total())
-    }
-
-    // Refuses a packet that would have no place.
-    fn check_room(&self) -> Result<(), Refusal>
-        ensures { result ≡ room_answer_at (all_waiting (meaning_of self.now.sessions)) }
-    {
-        if self.places_left() == 0 {
-            return Err(Refusal::Full);
-        }
-        Ok(())
+        self.lasts[session as usize].max(self.clock)
     }
 
     // The mark that a packet of this length would have, or why it does not enter.
@@ -79,13 +66,8 @@ impl<R: ReadyLine + Drop> SelfClocked<R> {
         ensures { result ≡ enter_answer (state self.now) session length }
     {
         let terms = self.sessions.check_length(session, length)?;
-        self.check_room()?;
-        mark(
-            self.lasts[session as usize],
-            self.clock,
-            length,
-            terms.weight,
-        )
+        self.sessions.check_room()?;
+        mark(self.base(session), length, terms.weight)
     }
 
     // The packet waits as the last of its session, and its mark is the session's last mark. A session of which nothing waited is ready now.
@@ -124,7 +106,7 @@ impl<R: ReadyLine + Drop> SelfClocked<R> {
     {
         if self.sessions.total() == 0 {
             self.clock = 0;
-            self.lasts = [0; 64];
+            self.lasts = [0; SESSIONS as usize];
         }
     }
 }

@@ -10,13 +10,15 @@ ghost use Rattle.self_clocked.specs.States.{state};
 use crate::line::SelfClocked;
 use crate::line::changes::renew;
 use calls::refusal::Refusal;
+use calls::session::SESSIONS;
 use discipline::discipline::Discipline;
 use ready::heap::Heap;
 use ready::line::ReadyLine;
 use sessions::state::Sessions;
+use waiting::table::PLACES;
 
 // How many numbers each buffer of a preview has at least.
-const PREVIEW_ROOM: usize = 256;
+const PREVIEW_ROOM: usize = PLACES as usize;
 
 // Refuses a buffer that is too short.
 fn check_buffers(tickets: &[u32], scratch: &[u64]) -> Result<(), Refusal>
@@ -33,7 +35,7 @@ fn clear_scratch(scratch: &mut [u64])
     requires { 256 ≤ length scratch.old }
     ensures { scratch.new ≡ replicate 256 0 ++ drop 256 scratch.old }
 {
-    scratch[0..PREVIEW_ROOM].copy_from_slice(&[0; PREVIEW_ROOM]);
+    scratch[..PREVIEW_ROOM].fill(0);
 }
 
 // A heap with an entry for each session with a waiting packet: the mark of its first one.
@@ -41,7 +43,7 @@ fn ready_firsts(sessions: &Sessions) -> Heap
     ensures { result.tags ≡ first_marks (meaning_of sessions.now) }
 {
     let mut ready = Heap::new();
-    for session in 0..64u32 {
+    for session in 0..SESSIONS {
         let _ = renew(&mut ready, sessions.first(session), session);
     }
     ready
@@ -75,7 +77,7 @@ impl<R: ReadyLine + Drop> SelfClocked<R> {
         SelfClocked {
             sessions: self.sessions,
             clock: 0,
-            lasts: [0; 64],
+            lasts: [0; SESSIONS as usize],
             ready: ready_firsts(&self.sessions),
         }
     }

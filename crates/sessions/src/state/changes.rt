@@ -46,7 +46,7 @@ impl Sessions {
     }
 
     // The first waiting packet of the session goes into service. Refused: a packet is in service, no such session, it has no packet.
-    #[tactic(auto, using(crate::proofs::Stepping::take_busy, crate::proofs::Stepping::take_past, crate::proofs::Stepping::take_none, crate::proofs::Stepping::take_ok, crate::proofs::Stepping::take_keeps, crate::proofs::Stepping::took))]
+    #[tactic(auto, using(crate::proofs::Stepping::take_busy, crate::proofs::Stepping::take_past, crate::proofs::Stepping::take_none, crate::proofs::Stepping::take_ok, crate::proofs::Stepping::took))]
     pub fn take(&mut self, session: u32) -> Result<Service, Refusal>
         ensures answer { result ≡ take_answer (meaning_of self.old) session }
         ensures after { meaning_of self.new ≡ after_take (meaning_of self.old) result }
