@@ -12,9 +12,12 @@ use Rattle.sharing.specs.Clocked.{Clocked}
 use Rattle.sharing.proofs.Pending.{terms_in}
 use Rattle.sharing.proofs.Reaches.{within_reach}
 use Rattle.sessions.specs.Verdicts.{verdict, room_answer_at, length_answer}
-use Rattle.sessions.proofs.Using.{InOrder, enterable, enter_by_room_and_reach}
+use Rattle.sessions.proofs.Using.{InOrder, open_in_order, enterable, enter_by_room_and_reach}
+use Rattle.sessions.specs.Meanings.{meaning_of}
+use Rattle.self_clocked.specs.declared.line.SelfClocked.{SelfClocked}
 use Rattle.self_clocked.specs.Exact.{weight_at, room_of, reach_of, enter_answer}
-use Rattle.self_clocked.specs.Marks.{under_ceiling, mark_answer, reach_answer_at}
+use Rattle.self_clocked.specs.Marks.{under_ceiling, mark_answer_from, reach_answer_from, mark_answer, reach_answer_at}
+use Rattle.self_clocked.specs.States.{last_in, state}
 
 ok_passes : {A : Type 0} (b : Bool) (value : A) (others : Result A Refusal) (reason : Refusal) → Ok value ≡ cond b others (Err reason) → (b ≡ true) × (Ok value ≡ others)
 ok_passes true value others reason is = (refl, is)
@@ -63,3 +66,14 @@ module _ (x : Clocked) (s : ℕ) (orderly : (t : Session) → x.meaning.session 
           let same : terms.weight ≡ weight_at x s = ap (λ (v : Terms). v.weight) given ∙ ap (λ o. weight_in (terms_in o)) (sym is) in
           ap (reach_answer_at (x.last s) x.clock) same ∙
           cond-true (within (weight_at x s) 16) (Ok (reach_from (max (x.last s) x.clock) (weight_at x s))) (Err BadWeight) (weight_within t is)
+
+-- the same of a line, with the base of its next mark
+module _ {R : Type 0} (x : SelfClocked R) (s base : ℕ) (terms : Terms) (is : base ≡ max (last_in x.lasts s) x.clock) where
+  pub admits : (n : ℕ) → Ok terms ≡ length_answer (meaning_of x.sessions) s n → Ok tt ≡ room_answer_at (all_waiting (meaning_of x.sessions)) →
+      mark_answer_from base n terms.weight ≡ enter_answer (state x) s n
+  admits n fits placed =
+      ap (λ b. mark_answer_from b n terms.weight) is ∙ admit_is (state x) s (open_in_order x.sessions s) n terms fits placed
+
+  pub reaches : Ok terms ≡ terms_answer (meaning_of x.sessions) s →
+      reach_answer_from base terms.weight ≡ reach_answer (meaning_of x.sessions) (reach_of (state x)) s
+  reaches fits = ap (λ b. reach_answer_from b terms.weight) is ∙ reach_is_asked (state x) s (open_in_order x.sessions s) terms fits

@@ -39,6 +39,7 @@ fn octets_within(left: u64, stride: u32) -> u32
 }
 
 // The longest length up to 65,535 whose mark from this base is not above the ceiling, or 0.
+#[tactic(auto, using(crate::proofs::Divisions::stride_positive, crate::proofs::Divisions::reach_divided))]
 pub(crate) fn reach(base: u64, weight: u32) -> Result<u32, Refusal>
     ensures { result ≡ reach_answer_from base weight }
 {

@@ -92,6 +92,7 @@ impl<R: ReadyLine + Drop> Discipline for SelfClocked<R> {
         Ok(self.sessions.places_left())
     }
 
+    #[tactic(auto, using(crate::proofs::Admits::reaches))]
     fn reach(&self, session: u32) -> Result<u32, Refusal> {
         let terms = self.sessions.terms(session)?;
         reach(self.base(session), terms.weight)

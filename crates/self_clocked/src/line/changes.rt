@@ -42,6 +42,7 @@ pub(crate) fn renew<R: ReadyLine>(
 
 impl<R: ReadyLine + Drop> SelfClocked<R> {
     // Every session closed, nothing waits, and the clock and every last mark at 0. What the ready line had is cleared.
+    #[tactic(auto, using(crate::specs::Calls::zeros_last))]
     pub fn new(ready: R) -> SelfClocked<R>
         ensures { Fresh (R.ReadyLine.tags result.ready) (state result) }
     {
@@ -62,6 +63,7 @@ impl<R: ReadyLine + Drop> SelfClocked<R> {
     }
 
     // The mark that a packet of this length would have, or why it does not enter.
+    #[tactic(auto, using(crate::proofs::Admits::admits))]
     pub(crate) fn admit(&self, session: u32, length: u32) -> Result<u64, Refusal>
         ensures { result ≡ enter_answer (state self.now) session length }
     {

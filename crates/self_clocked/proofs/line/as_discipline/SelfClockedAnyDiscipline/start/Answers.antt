@@ -1,3 +1,5 @@
+use Rattle.std.proofs.Common.{sym, ap, ◌∙◌}
+use Rattle.ready.specs.Tags.{without}
 use Rattle.sessions.specs.Meanings.{meaning_of}
 use Rattle.sessions.specs.Verdicts.{why_start}
 use Rattle.self_clocked.specs.States.{state}
@@ -11,10 +13,11 @@ returns g c = λ ok.
     let m = meaning_of x.sessions in
     let tags = g.R.ReadyLine.tags x.ready in
     let rest = g.R.ReadyLine.tags c.drop_least.new.self in
-    let mark = c.in-Some.mark in
-    let s = c.in-Some.session in
-    let least = c.in-Some.ensures.answer in
+    let mark = c.in_ok-mark.mark in
+    let s = c.in_ok-mark.session in
+    let first = c.in_ok-mark.ensures.ok_part in
+    let least = sym first ∙ c.drop_least.ensures.answer in
     let none = (verdict_ok (why_start m) tt tt c.in_ok-check_start.ensures).0 in
-    let due = start_due tags rest m mark s none ok.ready least c.in-Some.ensures.after in
+    let due = start_due tags rest m mark s none ok.ready least (c.drop_least.ensures.after ∙ ap (without tags) first) in
     step_started tags rest (g.R.ReadyLine.tags y.ready) (state x) (state y) mark s c.serve.result none ok.ready least due (c.serve.ensures.answer due)
     (c.serve.ensures.after due) (c.serve.ensures.ready due)
