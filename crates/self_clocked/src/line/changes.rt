@@ -73,6 +73,7 @@ impl<R: ReadyLine + Drop> SelfClocked<R> {
     }
 
     // The packet waits as the last of its session, and its mark is the session's last mark. A session of which nothing waited is ready now.
+    #[tactic(auto, using(crate::proofs::Entries::entered_state, crate::proofs::Entries::entered_later, crate::proofs::Entries::entered_first))]
     pub(crate) fn place(&mut self, session: u32, packet: Packet) -> Result<(), Refusal>
         ensures answer { R.ReadyLine.tags self.old.ready ≡ first_marks (meaning_of self.old.sessions) → why_put (meaning_of self.old.sessions) session ≡ None → result ≡ Ok tt }
         ensures after { why_put (meaning_of self.old.sessions) session ≡ None → state self.new ≡ entered_at (state self.old) session packet }
@@ -88,6 +89,7 @@ impl<R: ReadyLine + Drop> SelfClocked<R> {
     }
 
     // The first waiting packet of the session goes into service, the clock goes to its mark, and the session is ready with its next packet.
+    #[tactic(auto, using(crate::proofs::Starts::due_answer, crate::proofs::Starts::started_state))]
     pub(crate) fn serve(&mut self, mark: u64, session: u32) -> Result<Service, Refusal>
         ensures answer { Due (R.ReadyLine.tags self.old.ready) (meaning_of self.old.sessions) mark session → result ≡ taken session (first_of (waiting_in (meaning_of self.old.sessions) session)) }
         ensures after { Due (R.ReadyLine.tags self.old.ready) (meaning_of self.old.sessions) mark session → state self.new ≡ started_at (state self.old) (with_first session (waiting_in (meaning_of self.old.sessions) session)) }

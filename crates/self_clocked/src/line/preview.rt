@@ -70,6 +70,7 @@ impl SelfClocked<Heap> {
 
 impl<R: ReadyLine + Drop> SelfClocked<R> {
     // A line over a heap with the same sessions. Its clock and last marks are 0: no start or finish goes by them.
+    #[tactic(auto, using(crate::specs::Calls::zeros_last))]
     fn copy_over_heap(&self) -> SelfClocked<Heap>
         ensures sessions { result.sessions ≡ self.now.sessions }
         ensures sound { Sound result.ready.tags (state result) }

@@ -1,5 +1,5 @@
-use Rattle.std.proofs.Common.{sym, ap, ◌∙◌}
-use Rattle.ready.specs.Tags.{without}
+use Rattle.std.proofs.Common.{◌≡◌, Some, sym, ap, ◌∙◌}
+use Rattle.ready.specs.Tags.{least_of, without}
 use Rattle.sessions.specs.Meanings.{meaning_of}
 use Rattle.sessions.specs.Verdicts.{why_start}
 use Rattle.self_clocked.specs.States.{state}
@@ -15,8 +15,8 @@ returns g c = λ ok.
     let rest = g.R.ReadyLine.tags c.drop_least.new.self in
     let mark = c.in_ok-mark.mark in
     let s = c.in_ok-mark.session in
-    let first = c.in_ok-mark.ensures.ok_part in
-    let least = sym first ∙ c.drop_least.ensures.answer in
+    let first : c.drop_least.result ≡ Some (mark, s) = c.in_ok-mark.ensures.ok_part in
+    let least : Some (mark, s) ≡ least_of tags = sym first ∙ c.drop_least.ensures.answer in
     let none = (verdict_ok (why_start m) tt tt c.in_ok-check_start.ensures).0 in
     let due = start_due tags rest m mark s none ok.ready least (c.drop_least.ensures.after ∙ ap (without tags) first) in
     step_started tags rest (g.R.ReadyLine.tags y.ready) (state x) (state y) mark s c.serve.result none ok.ready least due (c.serve.ensures.answer due)
