@@ -73,7 +73,7 @@ impl<R: ReadyLine + Drop> SelfClocked<R> {
     }
 
     // The packet waits as the last of its session, and its mark is the session's last mark. A session of which nothing waited is ready now.
-    #[tactic(auto, using(crate::proofs::Entries::entered_state, crate::proofs::Entries::entered_later, crate::proofs::Entries::entered_first))]
+    #[tactic(auto, using(crate::proofs::Entries::entered_state, crate::proofs::Entries::entered_first))]
     pub(crate) fn place(&mut self, session: u32, packet: Packet) -> Result<(), Refusal>
         ensures answer { R.ReadyLine.tags self.old.ready ≡ first_marks (meaning_of self.old.sessions) → why_put (meaning_of self.old.sessions) session ≡ None → result ≡ Ok tt }
         ensures after { why_put (meaning_of self.old.sessions) session ≡ None → state self.new ≡ entered_at (state self.old) session packet }
