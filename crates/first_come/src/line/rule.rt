@@ -32,6 +32,7 @@ fn unmarked(length: u32, ticket: u32) -> Packet
 
 impl FirstCome {
     // Every session closed, and nothing waits.
+    #[tactic(auto, using(crate::specs::Stepping::fresh_keeps, crate::specs::Stepping::fresh_model))]
     pub fn new() -> FirstCome
         ensures { model_of result ≡ new_model }
     {
@@ -42,7 +43,6 @@ impl FirstCome {
     }
 
     // Whether the session may enter a packet of this length. The ticket plays no part.
-    #[tactic(auto, using(crate::specs::Stepping::enter_checks))]
     fn check_enter(&self, session: u32, length: u32) -> Result<(), Refusal>
         ensures { result ≡ verdict (why (meaning_of self.now.sessions) (Enter session length 0)) tt }
     {
@@ -51,6 +51,7 @@ impl FirstCome {
     }
 
     // The packet waits as the last of its session, and is the latest arrival.
+    #[tactic(auto, using(crate::specs::Stepping::append_model))]
     fn append(&mut self, session: u32, packet: Packet)
         requires { why_put (meaning_of self.old.sessions) session ≡ None }
         ensures { model_of self.new ≡ appended (model_of self.old) session packet }
@@ -89,10 +90,12 @@ impl Discipline for FirstCome {
 
     ghost few = { λ x ok. omega (arith, at_most_256 x.sessions) };
 
+    #[tactic(auto, using(crate::specs::Stepping::open_leaves, crate::specs::Stepping::same_keeps, crate::specs::Stepping::same_arrivals))]
     fn open(&mut self, session: u32, weight: u32, limit: u32) -> Result<(), Refusal> {
         self.sessions.open(session, weight, limit)
     }
 
+    #[tactic(auto, using(crate::specs::Stepping::enter_puts, sessions::proofs::Keeping::no_reason))]
     fn enter(&mut self, session: u32, length: u32, ticket: u32) -> Result<u64, Refusal> {
         self.check_enter(session, length)?;
         let packet = unmarked(length, ticket);
@@ -100,6 +103,7 @@ impl Discipline for FirstCome {
         Ok(packet.mark)
     }
 
+    #[tactic(auto, using(crate::specs::Stepping::start_keeps))]
     fn start(&mut self) -> Result<Service, Refusal> {
         self.sessions.check_start()?;
         let session = self.ring.first();
@@ -108,6 +112,7 @@ impl Discipline for FirstCome {
         Ok(service)
     }
 
+    #[tactic(auto, using(crate::specs::Stepping::finish_leaves, crate::specs::Stepping::same_keeps, crate::specs::Stepping::same_arrivals))]
     fn finish(&mut self) -> Result<Service, Refusal> {
         self.sessions.finish()
     }
