@@ -1,5 +1,6 @@
 -- What a ready line means, and what each call answers and leaves.
 use Rattle.std.specs.Prelude.{ℕ, suc, Bool, cond, List, [], ◌∷◌, replicate, is_some, Some, None, Ok, Err, count_by, Option, Result, nat_lt, slice_index_or, slice_set}
+pub use Rattle.calls.specs.Places.{place_answer}
 use Rattle.calls.specs.declared.refusal.Refusal.{Refusal}
 use Rattle.calls.specs.declared.refusal.Refusal.TheVariants.{NoSuchSession, DuplicateEntry}
 use Rattle.ready.specs.Order.{Entry, at_most}
@@ -17,10 +18,6 @@ no_entries = replicate 64 None
 
 abbrev pub entry_count : Tags → ℕ
 entry_count xs = count_by is_some xs
-
--- the place of a session in a table of 64: a session above 63 has none
-abbrev pub place_answer : ℕ → Result ℕ Refusal
-place_answer s = cond (nat_lt s 64) (Ok s) (Err NoSuchSession)
 
 -- a session takes no second entry
 abbrev pub free_answer : Bool → Result (Unit {0}) Refusal

@@ -6,10 +6,11 @@ ghost use Rattle.ready.specs.Heaps.{HeapOrdered};
 ghost use Rattle.ready.specs.Tags.{no_entries};
 
 use crate::entry::Entry;
-use crate::line::{ReadyLine, check_free, place_of};
+use crate::line::{ReadyLine, check_free};
 use crate::moves::{move_down, move_up};
 use arrayvec::ArrayVec;
 use calls::refusal::Refusal;
+use calls::session::place_of;
 use std::marker::Model;
 
 // The entries lie in heap order. For each session `present` says whether it has one.

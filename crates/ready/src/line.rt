@@ -1,6 +1,6 @@
 // What a ready line is.
 ghost use Rattle.std.specs.Prelude.{◌≡◌, length};
-ghost use Rattle.ready.specs.Tags.{Tags, place_answer, free_answer, add_answer, added, least_of, without, no_entries, entry_count};
+ghost use Rattle.ready.specs.Tags.{Tags, free_answer, add_answer, added, least_of, without, no_entries, entry_count};
 
 use crate::entry::Entry;
 use calls::refusal::Refusal;
@@ -33,16 +33,6 @@ pub trait ReadyLine {
         ensures { result ≡ entry_count (tags self.now) };
 
     ghost sessions: { (x : Self) → length (tags x) ≡ 64 };
-}
-
-// The place of a session in a table of 64: a session above 63 has none.
-pub fn place_of(session: u32) -> Result<usize, Refusal>
-    ensures { result ≡ place_answer session }
-{
-    if session > 63 {
-        return Err(Refusal::NoSuchSession);
-    }
-    Ok(session as usize)
 }
 
 // Refuses a second entry of a session.

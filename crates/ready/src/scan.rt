@@ -3,8 +3,9 @@ ghost use Rattle.std.specs.Prelude.{◌≡◌, length};
 ghost use Rattle.ready.specs.Tags.{entry_of, entry_count, least_of, no_entries};
 
 use crate::entry::Entry;
-use crate::line::{ReadyLine, check_free, place_of};
+use crate::line::{ReadyLine, check_free};
 use calls::refusal::Refusal;
+use calls::session::place_of;
 use std::marker::Model;
 
 // The table: for each session in turn the tag of its entry, if it has one.

@@ -11,7 +11,7 @@ ghost use Rattle.sessions.specs.Verdicts.{verdict, served};
 use crate::condition::{Condition, Event};
 use crate::seat::Account;
 use calls::call::{Packet, Service, Terms};
-use calls::refusal::Refusal;
+use calls::refusal::{Refusal, check_within};
 use calls::session::{SESSIONS, place_of};
 use calls::stride::charge;
 use waiting::table::Waiting;
@@ -50,12 +50,8 @@ impl Parts {
         ensures { result ≡ verdict (open_refusal (is_some (seat_at self.now.seats session)) session terms.weight terms.limit) tt }
     {
         let place = place_of(session)?;
-        if terms.weight == 0 || terms.weight > 16 {
-            return Err(Refusal::BadWeight);
-        }
-        if terms.limit == 0 || terms.limit > 65535 {
-            return Err(Refusal::BadLimit);
-        }
+        check_within(terms.weight, 16, Refusal::BadWeight)?;
+        check_within(terms.limit, 65535, Refusal::BadLimit)?;
         if self.seats[place].is_some() {
             return Err(Refusal::AlreadyOpen);
         }

@@ -5,8 +5,9 @@ ghost use Rattle.ready.specs.Tags.{no_entries};
 use crate::order::insert;
 use arrayvec::ArrayVec;
 use calls::refusal::Refusal;
+use calls::session::place_of;
 use ready::entry::Entry;
-use ready::line::{ReadyLine, check_free, place_of};
+use ready::line::{ReadyLine, check_free};
 use std::marker::Model;
 
 // The tag of each session that has an entry, and the same entries once more, the least last.

@@ -8,7 +8,7 @@ ghost use Rattle.sessions.specs.Verdicts.{verdict, why_open, why_start, why_put,
 
 use crate::state::Sessions;
 use calls::call::{Packet, Service, Terms};
-use calls::refusal::Refusal;
+use calls::refusal::{Refusal, check_within};
 use waiting::table::PLACES;
 
 impl Sessions {
@@ -78,9 +78,7 @@ impl Sessions {
         ensures { result ≡ length_answer (meaning_of self.now) session length }
     {
         let terms = self.terms(session)?;
-        if length == 0 || length > terms.limit {
-            return Err(Refusal::BadLength);
-        }
+        check_within(length, terms.limit, Refusal::BadLength)?;
         Ok(terms)
     }
 
