@@ -2,7 +2,8 @@
 ghost use Rattle.std.specs.Prelude.{◌≡◌};
 ghost use Rattle.discipline.specs.Continues.{run_answer, Made};
 ghost use Rattle.sharing.specs.Clocked.{ClockedStep};
-ghost use Rattle.self_clocked.specs.Exact.{Exact};
+ghost use Rattle.self_clocked.specs.Exact.{Exact, Fresh};
+ghost use Rattle.self_clocked.specs.States.{state};
 ghost use Rattle.self_clocked.specs.Whole.{WholeRun, Capped, LedBy};
 
 use crate::line::SelfClocked;
@@ -41,6 +42,19 @@ fn run_new<D: SelfClockedDiscipline>(
     run_self_clocked(line, calls, answers)
 }
 
+// A new line over this ready line, under two caps.
+fn under_two_caps<R: ReadyLine + Drop>(
+    ready: R,
+    inner: CapNumber,
+    outer: CapNumber,
+) -> Cap<Cap<SelfClocked<R>>>
+    ensures outer { result.cap ≡ outer }
+    ensures inner { result.below.cap ≡ inner }
+    ensures new { Fresh (R.ReadyLine.tags result.below.below.ready) (state result.below.below) }
+{
+    Cap::over(Cap::over(SelfClocked::new(ready), inner), outer)
+}
+
 // The same as `run_on` under two caps, one over the other: each answer is that of the exact rule, or of the cap that refused the call.
 pub fn run_on_capped<R: ReadyLine + Drop>(
     ready: R,
@@ -53,6 +67,6 @@ pub fn run_on_capped<R: ReadyLine + Drop>(
     ensures effect { WholeRun ClockedStep calls.now answers.old answers.new result }
     ensures capped { LedBy (Capped outer.number (Capped inner.number Exact)) calls.now answers.new result }
 {
-    let mut line = Cap::over(Cap::over(SelfClocked::new(ready), inner), outer);
+    let mut line = under_two_caps(ready, inner, outer);
     run_new(&mut line, calls, answers)
 }

@@ -85,6 +85,7 @@ impl<R: ReadyLine + Drop> SelfClocked<R> {
 
     // Writes the tickets of the waiting packets in the order in which they start if only start and finish come from now on, and answers how
     // many wait. The first 256 numbers of the scratch buffer are 0 afterwards. Refused by 13 where a buffer has fewer than 256 numbers.
+    #[tactic(auto, using(crate::proofs::Previewing::previewed_scratch))]
     pub fn preview(&self, tickets: &mut [u32], scratch: &mut [u64]) -> Result<usize, Refusal>
         ensures answer { result ≡ preview_answer (state self.now) tickets.old scratch.old }
         ensures few { IfOk result (λ n. n ≤ 256) }
