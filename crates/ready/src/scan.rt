@@ -1,8 +1,9 @@
 // A ready line that looks through a table of the tags.
-ghost use Rattle.std.specs.Prelude.{◌≡◌, length};
-ghost use Rattle.ready.specs.Tags.{entry_of, entry_count, least_of, no_entries};
+ghost use Rattle.std.specs.Prelude.{◌≡◌, None, fold, length};
+ghost use Rattle.std.specs.List.{range_with_len, zip};
+ghost use Rattle.ready.specs.Tags.{earlier, entry_of, entry_count, no_entries};
 
-use crate::entry::Entry;
+use crate::entry::{Entry, at_most};
 use crate::line::{ReadyLine, check_free};
 use calls::refusal::Refusal;
 use calls::session::place_of;
@@ -39,15 +40,24 @@ fn entry_of(session: u32, tag: Option<u64>) -> Option<Entry>
     tag.map(|tag| (tag, session))
 }
 
+// Of two entries the one that comes first.
+fn earlier(first: Option<Entry>, second: Option<Entry>) -> Option<Entry>
+    ensures { result ≡ earlier first second }
+{
+    let (Some(a), Some(b)) = (first, second) else {
+        return first.or(second);
+    };
+    if at_most(a, b) { first } else { second }
+}
+
 // The entry that comes first.
 fn least_of(tags: &[Option<u64>]) -> Option<Entry>
-    requires { length tags.now ≡ 64 }
-    ensures { result ≡ least_of tags.now }
+    ensures { result ≡ fold (λ best p. earlier best (entry_of p.0 p.1)) None (zip (range_with_len 0 64) tags.now) }
 {
-    (0..64)
-        .zip(tags)
-        .filter_map(|(session, tag)| entry_of(session, *tag))
-        .min()
+    (0..64).zip(tags).fold(
+        None,
+        |best, (session, tag)| earlier(best, entry_of(session, *tag)),
+    )
 }
 
 // How many sessions have an entry.
@@ -70,6 +80,7 @@ impl ReadyLine for Scan {
         Ok(())
     }
 
+    #[tactic(auto, using(crate::proofs::Scans::least_folded))]
     fn least(&self) -> Option<Entry> {
         least_of(&self.tags)
     }
