@@ -8,7 +8,7 @@ use Rattle.std.proofs.lemmas.List.Sums.{sum_by-cons, sum_by_push, sum_by-set, ge
 use Rattle.std.proofs.lemmas.Bool.{cases_eq, cases_Bool, cond_both, cond-true, cond-false, eqb-true, eq-eqb, ne_eqb, and_parts, and_from}
 use Rattle.ready.specs.Order.{Entry}
 use Rattle.ready.specs.Tags.{Tags, tag_of, entry_count}
-use Rattle.ready.specs.Entries.{entry_at, is_entry, occurrences, tag_is, EachOnce, Lists}
+use Rattle.ready.specs.Entries.{entry_at, is_entry, occurrences, tag_is, EachOnce, SameEntries, Lists}
 use Rattle.ready.specs.Leasts.{tag_within}
 
 -- a test as a number
@@ -67,8 +67,14 @@ once_place es xs h t s o =
     (r.0, r.1, λ i. (tag i, session i))
 
 -- the same entries in another order
+pub same_shuffled : (ds es fs : List Entry) → SameEntries ds es → IsPermutation es fs → SameEntries ds fs
+same_shuffled ds es fs h m = λ t s. sum_by-IsPermutation (λ e. bit (is_entry t s e)) es fs m ∙ h t s
+
+pub once_same : (es fs : List Entry) (xs : Tags) → SameEntries es fs → EachOnce es xs → EachOnce fs xs
+once_same es fs xs same h = λ t s. same t s ∙ h t s
+
 pub once_shuffled : (es fs : List Entry) (xs : Tags) → IsPermutation es fs → EachOnce es xs → EachOnce fs xs
-once_shuffled es fs xs moved h = λ t s. sum_by-IsPermutation (λ e. bit (is_entry t s e)) es fs moved ∙ h t s
+once_shuffled es fs xs moved = once_same es fs xs (same_shuffled es es fs (λ t s. refl) moved)
 
 -- 1 if the tag o of session s makes the entry of tag u and session r, else 0
 makes : Option ℕ → ℕ → ℕ → ℕ → ℕ

@@ -23,6 +23,10 @@ tag_is (Some u) t = cond (u == t) 1 0
 abbrev pub EachOnce : List Entry → Tags → Type 0
 EachOnce es xs = (t s : ℕ) → occurrences t s es ≡ tag_is (tag_of xs s) t
 
+-- the same entries stand in both, each as often
+abbrev pub SameEntries : List Entry → List Entry → Type 0
+SameEntries es fs = (t s : ℕ) → occurrences t s fs ≡ occurrences t s es
+
 -- es lists the entries of xs, each once, in any order
 pub record Lists (es : List Entry) (xs : Tags) : Type 0 where
   pub once : EachOnce es xs

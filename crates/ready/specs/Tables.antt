@@ -6,7 +6,7 @@ use Rattle.std.proofs.lemmas.List.{get_or_past, get_or-replicate}
 use Rattle.std.proofs.lemmas.List.Sums.{sum_by-cons}
 use Rattle.std.proofs.lemmas.Bool.{cases_lt, cases_Bool, eqb-true, cond-true, cond-false}
 use Rattle.ready.specs.Order.{Entry, AtMost}
-use Rattle.ready.specs.Tags.{Tags, tag_of, no_entries}
+use Rattle.ready.specs.Tags.{Tags, tag_of, no_entries, entry_count}
 use Rattle.ready.specs.Least.{IsLeast}
 use Rattle.ready.specs.Entries.{entry_at, is_entry, occurrences, tag_is, EachOnce, Lists}
 use Rattle.ready.specs.Heaps.{HeapOrdered, tag_among, tags_of}
@@ -64,9 +64,16 @@ pub empty_tags : tags_of [] ≡ no_entries
 unfolding tags_of
 empty_tags = refl
 
-pub empty_lists : Lists [] (tags_of [])
+pub empty_once : EachOnce [] (tags_of [])
 unfolding tags_of
-empty_lists = record { once = λ t s. ap (λ (o : Option ℕ). tag_is o t) (sym (no_tag s)); count = refl }
+empty_once = λ t s. ap (λ (o : Option ℕ). tag_is o t) (sym (no_tag s))
+
+pub empty_counted : 0 ≡ entry_count (tags_of [])
+unfolding tags_of
+empty_counted = refl
+
+pub empty_lists : Lists [] (tags_of [])
+empty_lists = record { once = empty_once; count = empty_counted }
 
 pub empty_marked : replicate 64 false ≡ map is_some (tags_of [])
 unfolding tags_of
