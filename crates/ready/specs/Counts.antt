@@ -147,7 +147,7 @@ count_most xs = count_by-le-length is_some xs
 pub count_free : (xs : Tags) (s : ℕ) → s < length xs → tag_of xs s ≡ None → entry_count xs < length xs
 count_free xs s l e = omega (arith, count_added xs 0 s l e, count_most (slice_set xs s (Some 0)), length-set xs s (Some 0))
 
--- a list of the entries, after one entry more and after one entry less, and what moves the entries alone
+-- a list of the entries, after one entry more and after one entry less
 pub lists_added : (es fs : List Entry) (xs : Tags) (t s : ℕ) → s < length xs → tag_of xs s ≡ None → Lists es xs → IsPermutation (es ++ (t, s) ∷ []) fs → Lists fs (slice_set xs s (Some t))
 lists_added es fs xs t s l e h moved = record {
   once = once_shuffled (es ++ (t, s) ∷ []) fs (slice_set xs s (Some t)) moved (once_added es xs t s l e h.once);

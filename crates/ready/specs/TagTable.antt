@@ -1,4 +1,4 @@
--- What a ready line is seen as.
+-- What a clause sees of a ready line of its own type.
 use Rattle.std.specs.Prelude.{◌≡◌, length}
 use Rattle.ready.specs.Tags.{Tags}
 
