@@ -2,6 +2,7 @@
 // first come, and self-clocked under two caps. Then it fills a line, and lets a session come back after a pause.
 #![tactic(auto)]
 
+use arrayvec::ArrayString;
 use calls::call::{Answer, Call};
 use calls::refusal::Refusal;
 use discipline::cap::{Cap, CapNumber};
@@ -18,15 +19,14 @@ use trace::listing::write_answer;
 // Prints what one line answers, with the name of the line before it.
 fn print_answer(
     out: &mut impl Write,
-    name: &[u8],
+    name: &str,
     at: u32,
     call: Call,
     answer: Answer,
 ) -> io::Result<()> {
-    let mut text = [0; 96];
-    let len = write_answer(at, call, answer, &mut text);
-    out.write_all(name)?;
-    out.write_all(&text[0..len])
+    let mut line = ArrayString::new();
+    write_answer(at, call, answer, &mut line);
+    write!(out, "{name}{line}")
 }
 
 fn open(session: u32, weight: u32, limit: u32) -> Call {
@@ -82,22 +82,16 @@ fn side_by_side(out: &mut impl Write, inner: CapNumber, outer: CapNumber) -> io:
     let mut capped = Cap::over(Cap::over(SelfClocked::new(Heap::new()), inner), outer);
     for (i, call) in script().iter().enumerate() {
         let at = i as u32 + 1;
-        print_answer(out, b"heap       ", at, *call, apply(&mut by_heap, *call))?;
-        print_answer(out, b"scan       ", at, *call, apply(&mut by_scan, *call))?;
-        print_answer(
-            out,
-            b"first come ",
-            at,
-            *call,
-            apply(&mut first_come, *call),
-        )?;
-        print_answer(out, b"capped     ", at, *call, apply(&mut capped, *call))?;
+        print_answer(out, "heap       ", at, *call, apply(&mut by_heap, *call))?;
+        print_answer(out, "scan       ", at, *call, apply(&mut by_scan, *call))?;
+        print_answer(out, "first come ", at, *call, apply(&mut first_come, *call))?;
+        print_answer(out, "capped     ", at, *call, apply(&mut capped, *call))?;
     }
     Ok(())
 }
 
 // 256 packets wait; one more is refused by 7; a start lets one more in, and again one is refused.
-fn fill<D: Discipline>(out: &mut impl Write, name: &[u8], line: &mut D) -> io::Result<()> {
+fn fill<D: Discipline>(out: &mut impl Write, name: &str, line: &mut D) -> io::Result<()> {
     let _ = apply(line, open(5, 3, 65535));
     for ticket in 1..258 {
         let call = enter(5, 1, ticket);
@@ -118,7 +112,7 @@ fn fill<D: Discipline>(out: &mut impl Write, name: &[u8], line: &mut D) -> io::R
 
 // While session 1 is away, session 0 sends ten packets. Coming back, session 1 is marked from the clock and not from its own last
 // mark, so it gets no service for the time that it was away.
-fn come_back<D: Discipline>(out: &mut impl Write, name: &[u8], line: &mut D) -> io::Result<()> {
+fn come_back<D: Discipline>(out: &mut impl Write, name: &str, line: &mut D) -> io::Result<()> {
     let _ = apply(line, open(0, 1, 1000));
     let _ = apply(line, open(1, 1, 1000));
     let _ = apply(line, enter(1, 10, 0));
@@ -142,21 +136,20 @@ fn come_back<D: Discipline>(out: &mut impl Write, name: &[u8], line: &mut D) -> 
     Ok(())
 }
 
-fn compare(out: &mut impl Write) -> Result<io::Result<()>, Refusal> {
-    let inner = CapNumber::try_from(3)?;
-    let outer = CapNumber::try_from(2)?;
-    Ok(side_by_side(out, inner, outer))
+// The caps of two and three packets, one over the other.
+fn caps() -> Result<(CapNumber, CapNumber), Refusal> {
+    Ok((CapNumber::try_from(3)?, CapNumber::try_from(2)?))
 }
 
 fn main(rt: HostRuntime) -> io::Result<()> {
     let mut out = BufWriter::new(rt.alloc(), rt.stdout())?;
-    if let Ok(printed) = compare(&mut out) {
-        printed?;
+    if let Ok((inner, outer)) = caps() {
+        side_by_side(&mut out, inner, outer)?;
     }
-    fill(&mut out, b"heap       ", &mut SelfClocked::new(Heap::new()))?;
-    fill(&mut out, b"scan       ", &mut SelfClocked::new(Scan::new()))?;
-    fill(&mut out, b"first come ", &mut FirstCome::new())?;
-    come_back(&mut out, b"heap       ", &mut SelfClocked::new(Heap::new()))?;
-    come_back(&mut out, b"first come ", &mut FirstCome::new())?;
+    fill(&mut out, "heap       ", &mut SelfClocked::new(Heap::new()))?;
+    fill(&mut out, "scan       ", &mut SelfClocked::new(Scan::new()))?;
+    fill(&mut out, "first come ", &mut FirstCome::new())?;
+    come_back(&mut out, "heap       ", &mut SelfClocked::new(Heap::new()))?;
+    come_back(&mut out, "first come ", &mut FirstCome::new())?;
     out.flush()
 }

@@ -2,6 +2,7 @@
 // sessions, over the heap and over the scan.
 #![tactic(auto)]
 
+use arrayvec::ArrayString;
 use calls::call::{Answer, Call};
 use discipline::run::apply;
 use ready::heap::Heap;
@@ -13,11 +14,10 @@ use std::io::{BufWriter, Write};
 use trace::listing::write_answer;
 
 // Prints what was answered to the start with this number.
-fn print_answer(out: &mut impl Write, name: &[u8], at: u32, answer: Answer) -> io::Result<()> {
-    let mut text = [0; 96];
-    let len = write_answer(at, Call::Start, answer, &mut text);
-    out.write_all(name)?;
-    out.write_all(&text[0..len])
+fn print_answer(out: &mut impl Write, name: &str, at: u32, answer: Answer) -> io::Result<()> {
+    let mut line = ArrayString::new();
+    write_answer(at, Call::Start, answer, &mut line);
+    write!(out, "{name}{line}")
 }
 
 // Opens four sessions, of the weights 1 and 2, enters twelve packets and starts one.
@@ -47,7 +47,7 @@ fn fill<R: ReadyLine + Drop>(line: &mut SelfClocked<R>) {
 
 fn look_ahead<R: ReadyLine + Drop>(
     out: &mut impl Write,
-    name: &[u8],
+    name: &str,
     line: &mut SelfClocked<R>,
 ) -> io::Result<()> {
     fill(line);
@@ -55,8 +55,7 @@ fn look_ahead<R: ReadyLine + Drop>(
     let mut scratch = [1; 256];
     if let Ok(count) = line.preview(&mut tickets, &mut scratch) {
         for ticket in &tickets[0..count] {
-            out.write_all(name)?;
-            writeln!(out, "preview ticket={ticket}")?;
+            writeln!(out, "{name}preview ticket={ticket}")?;
         }
     }
     for at in 1..12 {
@@ -69,7 +68,7 @@ fn look_ahead<R: ReadyLine + Drop>(
 
 fn main(rt: HostRuntime) -> io::Result<()> {
     let mut out = BufWriter::new(rt.alloc(), rt.stdout())?;
-    look_ahead(&mut out, b"heap       ", &mut SelfClocked::new(Heap::new()))?;
-    look_ahead(&mut out, b"scan       ", &mut SelfClocked::new(Scan::new()))?;
+    look_ahead(&mut out, "heap       ", &mut SelfClocked::new(Heap::new()))?;
+    look_ahead(&mut out, "scan       ", &mut SelfClocked::new(Scan::new()))?;
     out.flush()
 }

@@ -1,6 +1,7 @@
 // fairline: reads a trace from standard input, runs it on a new self-clocked line over the heap, and prints the listing.
 #![tactic(auto)]
 
+use arrayvec::ArrayString;
 use listing::lister::Lister;
 use std::io;
 use std::io::{BufWriter, Read, Write};
@@ -9,9 +10,9 @@ use trace::stream::LineReader;
 
 // Prints the line about one line of the trace.
 fn print_reading(out: &mut impl Write, lister: &mut Lister, reading: Reading) -> io::Result<()> {
-    let mut text = [0; 96];
-    let len = lister.write_reading(reading, &mut text);
-    out.write_all(&text[0..len])
+    let mut line = ArrayString::new();
+    lister.write_reading(reading, &mut line);
+    out.write_all(line.as_bytes())
 }
 
 // Prints the lines about the lines that end in the chunk.
@@ -31,10 +32,10 @@ fn print_chunk(
 
 // Prints the closing lines of the open sessions.
 fn print_closings(out: &mut impl Write, lister: &Lister) -> io::Result<()> {
-    let mut text = [0; 96];
     for session in 0..64 {
-        let len = lister.write_closing(session, &mut text);
-        out.write_all(&text[0..len])?;
+        if let Some(line) = lister.closing_line(session) {
+            out.write_all(line.as_bytes())?;
+        }
     }
     Ok(())
 }

@@ -1,4 +1,4 @@
-pub mod Rests
 pub mod Tellings
 pub mod Rows
 pub mod Wholes
+pub mod Writing

@@ -1,5 +1,5 @@
 -- A trace line by line: its lines, and what is listed of them so far.
-use Rattle.std.proofs.Common.{◌≡◌, ℕ, suc, ◌+◌, ◌-◌, ◌*◌, ◌<◌, ◌≤◌, Bool, true, false, cond, eqb, List, [], ◌∷◌, ◌++◌, length, get_or, Some, None, Ok, Err, Result, sym, refl, ap, ◌∙◌, add-one, arith}
+use Rattle.std.proofs.Common.{◌≡◌, ℕ, suc, ◌+◌, ◌-◌, ◌*◌, ◌<◌, ◌≤◌, Bool, true, false, cond, eqb, List, [], ◌∷◌, ◌++◌, length, get_or, Some, None, Ok, Err, Option, Result, sym, refl, ap, ◌∙◌, add-one, arith}
 use Rattle.std.proofs.lemmas.List.{append_assoc, append-nil}
 use Rattle.std.proofs.lemmas.List.Sums.{sum_by-cons}
 use Rattle.std.proofs.lemmas.Bool.{cond_both, eqb-true, eqb-false, eq-eqb, ne_eqb}
@@ -14,9 +14,11 @@ use Rattle.trace.specs.Lines.{read_line}
 use Rattle.trace.specs.Streams.{last_line, ended, lines_of, next_at, readings_from, readings}
 use Rattle.trace.proofs.Parts.{split_more, split_last}
 use Rattle.trace.proofs.Chunks.{SomeParts, some_parts, split_parts}
-use Rattle.trace.specs.Texts.{Wrote}
-use Rattle.listing.specs.Listings.{ends_in, said_of, after_line, calls_of, told_on, closing_at, closing_line, closings_below}
-use Rattle.trace.proofs.Writing.{wrote_both, wrote_as, wrote_none}
+use Rattle.std.specs.Option.{option_map}
+use Rattle.trace.specs.declared.listing.Closing.{Closing}
+use Rattle.listing.specs.Texts.{Wrote}
+use Rattle.listing.specs.Listings.{ends_in, said_of, after_line, calls_of, told_on, closing_at, standing_text, closing_line, closings_below}
+use Rattle.listing.proofs.Writing.{wrote_both, wrote_as, wrote_none}
 
 -- ---- the lines of a trace
 
@@ -201,6 +203,12 @@ some_left [] some = let z : ◌≡◌ {A = ℕ} 0 1 = cc in omega arith
 some_left (c ∷ cs) some = omega arith
 
 -- ---- the closing lines
+
+-- nothing is written about a session that is not open
+pub wrote_closed : (out : List ℕ) (start : ℕ) (closing : Option Closing) → None ≡ option_map standing_text closing →
+    Wrote out start (closing_line closing) out start
+wrote_closed out start None closed = wrote_none out start
+wrote_closed out start (Some closing) closed = cc
 
 pub closings_none : (m : Meaning) (before : List ℕ) (start : ℕ) → Wrote before start (closings_below 0 m) before start
 unfolding closings_below

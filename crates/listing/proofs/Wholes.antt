@@ -9,9 +9,9 @@ use Rattle.sessions.specs.Verdicts.{verdict, settled}
 use Rattle.sessions.proofs.Keeping.{passed, no_reason, the_reason}
 use Rattle.self_clocked.specs.Rows.{new_line, after_calls}
 use Rattle.trace.specs.Streams.{lines_of, readings}
-use Rattle.trace.specs.Texts.{put_at, Wrote}
+use Rattle.listing.specs.Texts.{put_at, Wrote}
 use Rattle.listing.specs.Listings.{calls_of, told_on, closings_below, listing_of, listing, octets_for, list_refusal, list_answer, listed_over}
-use Rattle.trace.proofs.Writing.{wrote_both, wrote_as}
+use Rattle.listing.proofs.Writing.{wrote_both, wrote_as}
 
 -- the lines, and then the closing lines
 pub listing_wrote : (trace : List ℕ) (x y : Clocked) {before middle after : List ℕ} {place end : ℕ} → x ≡ new_line →

@@ -1,4 +1,4 @@
-pub mod Texts
 pub mod Resting
 pub mod Listings
 pub mod Tellings
+pub mod Texts

@@ -74,9 +74,12 @@ standing s t = record { session = s; weight = t.weight; octets = t.octets; waiti
 abbrev pub closing_at : Meaning → ℕ → Option Closing
 closing_at m s = cond (nat_lt s 64) (option_map (standing s) (m.session s)) None
 
+abbrev pub standing_text : Closing → List ℕ
+standing_text c = closing_text c.session c.weight c.octets c.waiting
+
 abbrev pub closing_line : Option Closing → List ℕ
 closing_line None = []
-closing_line (Some c) = closing_text c.session c.weight c.octets c.waiting
+closing_line (Some c) = standing_text c
 
 -- the closing lines of the open sessions below n, in rising order
 unfoldable pub closings_below : ℕ → Meaning → List ℕ

@@ -1,18 +1,11 @@
--- The pieces that the lines of a listing are made of.
-use Rattle.std.specs.Prelude.{ℕ, List, ◌++◌, codes, decimal}
-use Rattle.calls.specs.declared.call.Packet.{Packet}
+-- Text that is written into octets from a place on.
+use Rattle.std.specs.Prelude.{◌≡◌, ℕ, ◌+◌, List, ◌++◌, length, take, drop}
 
-abbrev pub ticket_text : Packet → List ℕ
-ticket_text packet = codes " ticket=" ++ decimal packet.ticket
+-- what was there, with the piece over it from the place on
+unfoldable pub put_at : List ℕ → ℕ → List ℕ → List ℕ
+put_at out at piece = take at out ++ (piece ++ drop (at + length piece) out)
 
-abbrev pub length_text : Packet → List ℕ
-length_text packet = codes " length=" ++ decimal packet.length
-
-abbrev pub mark_text : ℕ → List ℕ
-mark_text mark = codes " mark=" ++ decimal mark
-
-abbrev pub octets_text : ℕ → List ℕ
-octets_text octets = codes " octets=" ++ decimal octets
-
-abbrev pub waiting_text : ℕ → List ℕ
-waiting_text waiting = codes " waiting=" ++ decimal waiting
+-- the text was written over what was there, and `end` is the place behind it
+pub record Wrote (before : List ℕ) (at : ℕ) (text after : List ℕ) (end : ℕ) : Type 0 where
+  pub octets : after ≡ put_at before at text
+  pub place : end ≡ at + length text

@@ -2,7 +2,5 @@
 #![tactic(auto)]
 
 pub mod laws;
-pub mod lines;
 pub mod lister;
-mod text;
 pub mod whole;

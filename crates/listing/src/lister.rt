@@ -1,8 +1,7 @@
 // The line of packets that a trace is run on.
-ghost use Rattle.listing.specs.Resting.{ReadyFirsts, ClockRests, LastsRest};
-
 use ready::heap::Heap;
 use self_clocked::line::SelfClocked;
+use std::marker::Model;
 
 pub mod steps;
 
@@ -10,8 +9,19 @@ pub mod steps;
 #[derive(Drop)]
 pub struct Lister {
     line: SelfClocked<Heap>,
-    // It began new and saw only calls, so it is sound.
-    ghost ready: { ReadyFirsts line },
-    ghost clock: { ClockRests line },
-    ghost lasts: { LastsRest line },
+}
+
+// A contract sees the line. It began new and saw only calls, so it is sound.
+impl Model for Lister {
+    ghost use Rattle.ready.specs.declared.heap.Heap.{Heap as Entries};
+    ghost use Rattle.self_clocked.specs.declared.line.SelfClocked.{SelfClocked as Line};
+    ghost use Rattle.self_clocked.specs.Exact.{Sound};
+    ghost use Rattle.self_clocked.specs.States.{state};
+    ghost use Rattle.listing.specs.Resting.{heap_tags};
+
+    ghost Value = { Line Entries };
+
+    ghost view = { λ x. x.line };
+
+    ghost invariant = { λ x. Sound (heap_tags x.line) (state x.line) };
 }

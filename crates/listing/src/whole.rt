@@ -1,15 +1,16 @@
 // A whole trace that is handed over, and the buffer that its listing is written into.
 ghost use Rattle.std.specs.Prelude.{◌≡◌, ◌+◌, ◌*◌, ◌≤◌, length, IfOk};
 ghost use Rattle.sessions.specs.Verdicts.{verdict};
-ghost use Rattle.self_clocked.specs.Rows.{after_calls};
 ghost use Rattle.self_clocked.specs.States.{state};
+ghost use Rattle.self_clocked.specs.Rows.{after_calls};
 ghost use Rattle.trace.specs.Lines.{read_line};
 ghost use Rattle.trace.specs.Streams.{lines_of, readings};
-ghost use Rattle.trace.specs.Texts.{Wrote};
-ghost use Rattle.listing.specs.Listings.{ends_in, said_of, after_line, calls_of, told_on, closings_below, listing, list_refusal, list_answer, listed_over};
+ghost use Rattle.listing.specs.Texts.{Wrote};
+ghost use Rattle.listing.specs.Listings.{ends_in, said_of, after_line, calls_of, told_on, closing_at, closing_line, closings_below, listing, list_refusal, list_answer, listed_over};
 ghost use Rattle.listing.specs.Tellings.{Tells};
 
 use crate::lister::Lister;
+use arrayvec::ArrayString;
 use calls::refusal::Refusal;
 use trace::cut::split_once;
 use trace::line::read_line;
@@ -66,27 +67,39 @@ fn check_sizes(trace: &[u8], out: &[u8]) -> Result<(), Refusal>
     Ok(())
 }
 
+// Writes the text over the octets from the place on, and answers the place behind it.
+fn put(out: &mut [u8], at: usize, text: &[u8]) -> usize
+    requires { at + length text.now ≤ length out.old }
+    ensures { Wrote out.old at text.now out.new result }
+{
+    let end = at + text.len();
+    out[at..end].copy_from_slice(text);
+    end
+}
+
 impl Lister {
     // Makes the call of one line and writes the line about it. Answers the place behind the text.
     fn put_line(&mut self, at: u32, line: &[u8], out: &mut [u8], start: usize) -> usize
         requires { start + 96 ≤ length out.old }
-        ensures wrote { Wrote out.old start (said_of (state self.old.line) at (read_line line.now)) out.new result }
+        ensures wrote { Wrote out.old start (said_of (state self.old) at (read_line line.now)) out.new result }
         ensures short { result ≤ start + 96 }
-        ensures after { state self.new.line ≡ after_line (state self.old.line) (read_line line.now) }
+        ensures after { state self.new ≡ after_line (state self.old) (read_line line.now) }
     {
         let reading = Reading {
             at,
             line: read_line(line),
         };
-        self.put_reading(reading, out, start)
+        let mut text = ArrayString::new();
+        self.write_reading(reading, &mut text);
+        put(out, start, text.as_bytes())
     }
 
     // Makes the calls of the trace and writes the lines about them. Answers the place behind the text.
     fn put_lines(&mut self, trace: &[u8], out: &mut [u8]) -> usize
         requires { 96 * length (lines_of trace.now) ≤ length out.old }
-        ensures wrote { Wrote out.old 0 (told_on (state self.old.line) (readings trace.now)) out.new result }
+        ensures wrote { Wrote out.old 0 (told_on (state self.old) (readings trace.now)) out.new result }
         ensures short { result ≤ 96 * length (lines_of trace.now) }
-        ensures after { state self.new.line ≡ after_calls (state self.old.line) (calls_of (readings trace.now)) }
+        ensures after { state self.new ≡ after_calls (state self.old) (calls_of (readings trace.now)) }
     {
         let mut at = 1;
         let mut rest = trace;
@@ -102,10 +115,23 @@ impl Lister {
         self.put_line(at, rest, out, end)
     }
 
+    // Writes the closing line of the session, if it is open. Answers the place behind the text.
+    #[tactic(auto, using(crate::proofs::Rows::wrote_closed))]
+    fn put_closing(&self, session: u32, out: &mut [u8], start: usize) -> usize
+        requires { start + 96 ≤ length out.old }
+        ensures wrote { Wrote out.old start (closing_line (closing_at (state self.now).meaning session)) out.new result }
+        ensures short { result ≤ start + 96 }
+    {
+        match self.closing_line(session) {
+            Some(text) => put(out, start, text.as_bytes()),
+            None => start,
+        }
+    }
+
     // Writes the closing lines of the open sessions. Answers the place behind the text.
     fn put_closings(&self, out: &mut [u8], start: usize) -> usize
         requires { start + 6144 ≤ length out.old }
-        ensures wrote { Wrote out.old start (closings_below 64 (state self.now.line).meaning) out.new result }
+        ensures wrote { Wrote out.old start (closings_below 64 (state self.now).meaning) out.new result }
         ensures short { result ≤ start + 6144 }
     {
         let mut end = start;

@@ -6,4 +6,4 @@ pub mod OneText
 pub mod Parts
 pub mod ReadBack
 pub mod Streaming
-pub mod Writing
+pub mod Words

@@ -1,13 +1,12 @@
 -- A number and its decimal text belong to each other.
 use Rattle.std.proofs.Common.{◌≡◌, ℕ, ◌^◌, ◌<◌, Bool, true, false, cond, ltb, List, [], ◌∷◌, length, get_or, Ok, Err, decimal, Result, sym, refl, ap, ◌∙◌, ⊎_elim, arith, rules}
-use Rattle.std.proofs.lemmas.Fmt.{decimal_nonempty, first_decimal, digits_decimal, digits_value-decimal, decimal-digits_value}
+use Rattle.std.proofs.lemmas.Fmt.{decimal_digit, decimal_nonempty, first_decimal, digits_decimal, digits_value-decimal, decimal-digits_value}
 use Rattle.std.proofs.lemmas.Str.Parse.{IsNumeralModel, numerals_by_fold}
 use Rattle.std.proofs.lemmas.Bool.{ltb-true, lt-ltb, ne_eqb, eqb-false, cases_lt}
 use Rattle.trace.specs.declared.number.NumberFault.{NumberFault}
 use Rattle.trace.specs.declared.number.NumberFault.TheVariants.{StrayOctet, LeadingZero, TooLarge}
 use Rattle.trace.specs.Laws.{NumbersHaveOneText}
 use Rattle.trace.specs.Numbers.{all_digits, value_after, value, leading_zero, read_number}
-use Rattle.trace.proofs.Writing.{decimal_one}
 
 pub own : IsNumeralModel (λ ds. all_digits ds ≡ true) value
 own = numerals_by_fold _ (search rules) value_after (search rules)
@@ -29,7 +28,7 @@ zero_alone (c ∷ d ∷ cs) none some e = absurd (eqb-false c 48 none e)
 
 decimal_alone : (n : ℕ) → n < 2 ^ 64 → Alone (decimal n)
 decimal_alone n fits e =
-    ⊎_elim (λ pos. let no : ⊥ = omega (arith, first_decimal n pos fits) in absurd no) (λ zero. decimal_one n (omega arith)) (cases_lt 0 n)
+    ⊎_elim (λ pos. let no : ⊥ = omega (arith, first_decimal n pos fits) in absurd no) (λ zero. ap length (decimal_digit n (omega arith))) (cases_lt 0 n)
 
 -- what is decided by three tests
 decided : Bool → Bool → Bool → ℕ → Result ℕ NumberFault

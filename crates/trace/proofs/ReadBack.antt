@@ -1,8 +1,8 @@
 -- A call that is written out reads back as that call.
-use Rattle.std.proofs.Common.{◌≡◌, ℕ, ◌^◌, ◌<◌, ◌≤◌, Bool, true, cond, ◌&&◌, ltb, leb, List, [], ◌∷◌, ◌++◌, length, Some, Ok, Err, codes, decimal, refl, ap, ◌∙◌, arith}
+use Rattle.std.proofs.Common.{◌≡◌, ℕ, ◌^◌, ◌<◌, ◌≤◌, Bool, true, cond, ◌&&◌, ltb, leb, List, [], ◌∷◌, ◌++◌, length, Some, Ok, Err, decimal, refl, ap, ◌∙◌, arith}
 use Rattle.std.proofs.lemmas.Fmt.{length-decimal-le, digits_decimal}
 use Rattle.std.proofs.ByRecursion.{All-append}
-use Rattle.std.proofs.lemmas.List.{append_assoc, length-append}
+use Rattle.std.proofs.lemmas.List.{length-append}
 use Rattle.std.proofs.lemmas.Bool.{le-ltb, and_parts, leb-true, ltb-true}
 use Rattle.std.specs.List.{AllByRecursion}
 use Rattle.calls.specs.declared.call.Call.{Call}
@@ -131,12 +131,3 @@ calls_read_back (Enter s len t) fits =
     (ap (λ r. then r (λ ns. Ok (call_of EnterOrder ns))) (three_read Session Length Ticket s len t fits.0 fits.1 fits.2))
 calls_read_back Start fits = refl
 calls_read_back Finish fits = refl
-
--- the pieces in which a call is written make up its text
-pub open_text : (s w l : ℕ) →
-    (codes "do=open session=" ++ decimal s) ++ (codes " weight=" ++ decimal w) ++ (codes " limit=" ++ decimal l) ≡ call_text (Open s w l)
-open_text s w l = simp append_assoc
-
-pub enter_text : (s n t : ℕ) →
-    (codes "do=enter session=" ++ decimal s) ++ (codes " length=" ++ decimal n) ++ (codes " ticket=" ++ decimal t) ≡ call_text (Enter s n t)
-enter_text s n t = simp append_assoc

@@ -4,6 +4,5 @@ pub mod Fields
 pub mod Laws
 pub mod Lines
 pub mod Numbers
-pub mod Readers
 pub mod Streams
 pub mod Texts

@@ -1,5 +1,6 @@
 -- Decimal numbers of 32 bits, and why an octet string is none.
-use Rattle.std.specs.Prelude.{ℕ, ◌+◌, ◌-◌, ◌*◌, Bool, true, false, cond, ◌&&◌, List, [], ◌∷◌, Ok, Err, Result, ◌==◌, nat_le, nat_lt}
+use Rattle.std.specs.Prelude.{ℕ, ◌+◌, ◌-◌, ◌*◌, Bool, false, cond, ◌&&◌, List, [], ◌∷◌, Ok, Err, Result, ◌==◌, nat_le, nat_lt}
+use Rattle.std.specs.List.{list_all}
 use Rattle.trace.specs.declared.number.NumberFault.{NumberFault}
 use Rattle.trace.specs.declared.number.NumberFault.TheVariants.{Empty, StrayOctet, LeadingZero, TooLarge}
 
@@ -7,8 +8,7 @@ abbrev pub is_digit : ℕ → Bool
 is_digit c = nat_le 48 c && nat_le c 57
 
 abbrev pub all_digits : List ℕ → Bool
-all_digits [] = true
-all_digits (c ∷ cs) = is_digit c && all_digits cs
+all_digits cs = list_all is_digit cs
 
 -- what the digits are worth after n
 abbrev pub value_after : ℕ → List ℕ → ℕ

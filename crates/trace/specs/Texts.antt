@@ -1,5 +1,5 @@
--- Text that is written into octets from a place on.
-use Rattle.std.specs.Prelude.{◌≡◌, ℕ, ◌+◌, List, [], ◌∷◌, ◌++◌, length, take, drop, codes, decimal, Ok, Err}
+-- The texts of calls, and of the lines of a listing.
+use Rattle.std.specs.Prelude.{ℕ, List, [], ◌∷◌, ◌++◌, codes, decimal, Ok, Err}
 use Rattle.calls.specs.declared.call.Call.{Call}
 use Rattle.calls.specs.declared.call.Call.TheVariants.{Open, Enter, Start, Finish}
 use Rattle.calls.specs.Refusals.{refusal_number}
@@ -12,15 +12,6 @@ use Rattle.trace.specs.declared.field.Order.{Order}
 use Rattle.trace.specs.declared.field.Order.TheVariants.{Open as OpenOrder, Enter as EnterOrder, Start as StartOrder, Finish as FinishOrder}
 use Rattle.trace.specs.Faults.{fault_number, fault_field}
 use Rattle.trace.specs.Fields.{key_name, order_name}
-
--- what was there, with the piece over it from the place on
-unfoldable pub put_at : List ℕ → ℕ → List ℕ → List ℕ
-put_at out at piece = take at out ++ (piece ++ drop (at + length piece) out)
-
--- the text was written over what was there, and `end` is the place behind it
-pub record Wrote (before : List ℕ) (at : ℕ) (text after : List ℕ) (end : ℕ) : Type 0 where
-  pub octets : after ≡ put_at before at text
-  pub place : end ≡ at + length text
 
 -- the parts with a separator s between each two
 abbrev pub join : ℕ → List (List ℕ) → List ℕ

@@ -1,6 +1,6 @@
 // Why a line of a trace is not understood: a number's fault stands in a field's, and that in a line's.
-ghost use Rattle.std.specs.Prelude.{◌≡◌};
-ghost use Rattle.trace.specs.Faults.{fault_number, fault_field};
+ghost use Rattle.std.specs.Prelude.{◌≡◌, unwrap_or};
+ghost use Rattle.trace.specs.Faults.{fault_number, faulty_field, fault_field};
 ghost use Rattle.trace.specs.declared.fault.FieldFault.TheVariants.{Number};
 ghost use Rattle.trace.specs.declared.fault.LineFault.TheVariants.{Field};
 
@@ -55,14 +55,15 @@ impl LineFault {
         }
     }
 
-    // The place of the faulty field, counted from 1; 0 where the line as a whole is at fault.
-    pub fn field(&self) -> u32
-        ensures { result ≡ fault_field self.now }
+    // The place of the faulty field, counted from 1; none where the line as a whole is at fault.
+    pub fn field(&self) -> Option<u32>
+        ensures place { result ≡ faulty_field self.now }
+        ensures number { unwrap_or result 0 ≡ fault_field self.now }
     {
         match self {
-            LineFault::Field(FieldFault::Malformed(place)) => *place,
-            LineFault::Field(FieldFault::Number(bad)) => bad.place,
-            LineFault::TooLong => 0,
+            LineFault::Field(FieldFault::Malformed(place)) => Some(*place),
+            LineFault::Field(FieldFault::Number(bad)) => Some(bad.place),
+            LineFault::TooLong => None,
         }
     }
 }

@@ -50,10 +50,7 @@ impl<'a> Fields<'a> {
 fn read_number_at(place: u32, text: &[u8]) -> Result<u32, BadNumber>
     ensures { result ≡ numbered place (read_number text.now) }
 {
-    match read_number(text) {
-        Ok(number) => Ok(number),
-        Err(fault) => Err(BadNumber { place, fault }),
-    }
+    read_number(text).map_err(|fault| BadNumber { place, fault })
 }
 
 // The order at the head of a line.

@@ -1,10 +1,12 @@
 // The lines of a listing: what was said to each call, and how each open session stands at the end.
-ghost use Rattle.std.specs.Prelude.{◌≡◌, ◌+◌, ◌≤◌, length, Ok, Err};
+ghost use Rattle.std.specs.Prelude.{◌≡◌, ◌+◌, ◌≤◌, [], ◌++◌, codes, decimal, Ok, Err};
+ghost use Rattle.arrayvec.specs.ArrayString.{array_string_len};
 ghost use Rattle.calls.specs.declared.call.Reply.TheVariants.{Started, Finished, Entered, Opened};
-ghost use Rattle.trace.specs.Texts.{Wrote, session_of, answer_text, closing_text, numbered_line};
+ghost use Rattle.trace.specs.Texts.{session_of, answer_text, closing_text};
 
-use crate::text::{put, put_field, put_wide_field};
-use calls::call::{Answer, Call, Reply, Service};
+use crate::text::push_field;
+use arrayvec::ArrayString;
+use calls::call::{Answer, Call, Packet, Reply, Service};
 use calls::refusal::Refusal;
 
 // How an open session stands.
@@ -36,83 +38,88 @@ fn session_of(call: Call) -> u32
     }
 }
 
-fn put_opened(out: &mut [u8], at: u32, call: Call) -> usize
-    requires { 96 ≤ length out.old }
-    ensures wrote { Wrote out.old 0 (answer_text at call (Ok Opened)) out.new result }
-    ensures short { result ≤ 96 }
+fn push_opened(line: &mut ArrayString<96>, at: u32, call: Call)
+    requires { line.old.bytes ≡ [] }
+    ensures { line.new.bytes ≡ answer_text at call (Ok Opened) }
 {
-    let place = put_field(out, 0, b"at=", at);
-    let place = put_field(out, place, b" said=opened session=", session_of(call));
-    put(out, place, b"\n")
+    push_field(line, "at=", at);
+    push_field(line, " said=opened session=", session_of(call));
+    line.push_str("\n");
 }
 
-fn put_entered(out: &mut [u8], at: u32, call: Call, mark: u64) -> usize
-    requires { 96 ≤ length out.old }
-    ensures wrote { Wrote out.old 0 (answer_text at call (Ok (Entered mark))) out.new result }
-    ensures short { result ≤ 96 }
+fn push_entered(line: &mut ArrayString<96>, at: u32, call: Call, mark: u64)
+    requires { line.old.bytes ≡ [] }
+    ensures { line.new.bytes ≡ answer_text at call (Ok (Entered mark)) }
 {
-    let place = put_field(out, 0, b"at=", at);
-    let place = put_field(out, place, b" said=entered session=", session_of(call));
-    let place = put_wide_field(out, place, b" mark=", mark);
-    put(out, place, b"\n")
+    push_field(line, "at=", at);
+    push_field(line, " said=entered session=", session_of(call));
+    push_field(line, " mark=", mark);
+    line.push_str("\n");
 }
 
-fn put_started(out: &mut [u8], at: u32, call: Call, service: Service) -> usize
-    requires { 96 ≤ length out.old }
-    ensures wrote { Wrote out.old 0 (answer_text at call (Ok (Started service))) out.new result }
-    ensures short { result ≤ 96 }
+// Puts the field that the lines about a packet share.
+fn push_ticket(line: &mut ArrayString<96>, packet: Packet)
+    requires { array_string_len line.old + 18 ≤ 96 }
+    ensures octets { line.new.bytes ≡ line.old.bytes ++ (codes " ticket=" ++ decimal packet.ticket) }
+    ensures short { array_string_len line.new ≤ array_string_len line.old + 18 }
 {
-    let place = put_field(out, 0, b"at=", at);
-    let place = put_field(out, place, b" said=started session=", service.session);
-    let place = put_field(out, place, b" ticket=", service.packet.ticket);
-    let place = put_wide_field(out, place, b" mark=", service.packet.mark);
-    put(out, place, b"\n")
+    push_field(line, " ticket=", packet.ticket);
 }
 
-fn put_finished(out: &mut [u8], at: u32, call: Call, service: Service) -> usize
-    requires { 96 ≤ length out.old }
-    ensures wrote { Wrote out.old 0 (answer_text at call (Ok (Finished service))) out.new result }
-    ensures short { result ≤ 96 }
+fn push_started(line: &mut ArrayString<96>, at: u32, call: Call, service: Service)
+    requires { line.old.bytes ≡ [] }
+    ensures { line.new.bytes ≡ answer_text at call (Ok (Started service)) }
 {
-    let place = put_field(out, 0, b"at=", at);
-    let place = put_field(out, place, b" said=finished session=", service.session);
-    let place = put_field(out, place, b" ticket=", service.packet.ticket);
-    let place = put_field(out, place, b" length=", service.packet.length);
-    put(out, place, b"\n")
+    push_field(line, "at=", at);
+    push_field(line, " said=started session=", service.session);
+    push_ticket(line, service.packet);
+    push_field(line, " mark=", service.packet.mark);
+    line.push_str("\n");
 }
 
-fn put_refused(out: &mut [u8], at: u32, call: Call, reason: Refusal) -> usize
-    requires { 96 ≤ length out.old }
-    ensures wrote { Wrote out.old 0 (answer_text at call (Err reason)) out.new result }
-    ensures short { result ≤ 96 }
+fn push_finished(line: &mut ArrayString<96>, at: u32, call: Call, service: Service)
+    requires { line.old.bytes ≡ [] }
+    ensures { line.new.bytes ≡ answer_text at call (Ok (Finished service)) }
 {
-    let place = put_field(out, 0, b"at=", at);
-    let place = put_field(out, place, b" said=refused number=", reason.number());
-    put(out, place, b"\n")
+    push_field(line, "at=", at);
+    push_field(line, " said=finished session=", service.session);
+    push_ticket(line, service.packet);
+    push_field(line, " length=", service.packet.length);
+    line.push_str("\n");
 }
 
-// Writes what was said to the call of this line to the front of the buffer, and answers the text's length.
-pub fn write_answer(at: u32, call: Call, answer: Answer, out: &mut [u8; 96]) -> usize
-    ensures wrote { Wrote out.old 0 (answer_text at call answer) out.new result }
-    ensures short { result ≤ 96 }
+fn push_refused(line: &mut ArrayString<96>, at: u32, call: Call, reason: Refusal)
+    requires { line.old.bytes ≡ [] }
+    ensures { line.new.bytes ≡ answer_text at call (Err reason) }
 {
+    push_field(line, "at=", at);
+    push_field(line, " said=refused number=", reason.number());
+    line.push_str("\n");
+}
+
+// Writes what was said to the call of the line with the number `at`.
+pub fn write_answer(at: u32, call: Call, answer: Answer, line: &mut ArrayString<96>)
+    ensures { line.new.bytes ≡ answer_text at call answer }
+{
+    line.clear();
     match answer {
-        Ok(Reply::Opened) => put_opened(out, at, call),
-        Ok(Reply::Entered { mark }) => put_entered(out, at, call, mark),
-        Ok(Reply::Started(service)) => put_started(out, at, call, service),
-        Ok(Reply::Finished(service)) => put_finished(out, at, call, service),
-        Err(reason) => put_refused(out, at, call, reason),
+        Ok(Reply::Opened) => push_opened(line, at, call),
+        Ok(Reply::Entered { mark }) => push_entered(line, at, call, mark),
+        Ok(Reply::Started(service)) => push_started(line, at, call, service),
+        Ok(Reply::Finished(service)) => push_finished(line, at, call, service),
+        Err(reason) => push_refused(line, at, call, reason),
     }
 }
 
-// Writes the closing line of a session to the front of the buffer, and answers the text's length.
-pub fn write_closing(closing: Closing, out: &mut [u8; 96]) -> usize
-    ensures wrote { Wrote out.old 0 (closing_text closing.session closing.weight closing.octets closing.waiting) out.new result }
-    ensures short { result ≤ 96 }
+// The closing line of a session.
+pub fn closing_line(closing: Closing) -> ArrayString<96>
+    ensures { result.bytes ≡ closing_text closing.session closing.weight closing.octets closing.waiting }
 {
-    let place = put_field(out, 0, b"end=", closing.session);
-    let place = put_field(out, place, b" weight=", closing.weight);
-    let place = put_wide_field(out, place, b" octets=", closing.octets);
-    let place = put_field(out, place, b" waiting=", closing.waiting);
-    put(out, place, b"\n")
+    let mut line = ArrayString::new();
+    push_field(&mut line, "end=", closing.session);
+    push_field(&mut line, " weight=", closing.weight);
+    push_field(&mut line, " octets=", closing.octets);
+    push_field(&mut line, " waiting=", closing.waiting);
+    line.push_str("\n");
+    line
 }

@@ -14,21 +14,10 @@ pub enum NumberFault {
 // One above the largest number.
 const TOP: u64 = 4_294_967_296;
 
-fn is_digit(octet: u8) -> bool
-    ensures { result ≡ is_digit octet }
-{
-    octet >= b'0' && octet <= b'9'
-}
-
 fn all_digits(octets: &[u8]) -> bool
     ensures { result ≡ all_digits octets.now }
 {
-    for octet in octets {
-        if !is_digit(*octet) {
-            return false;
-        }
-    }
-    true
+    octets.iter().all(|octet| octet.is_ascii_digit())
 }
 
 // One digit more, held at the top once the number is too large.
@@ -42,10 +31,7 @@ fn with_digit(value: u64, digit: u8) -> u64
 fn in_range(value: u64) -> Result<u32, NumberFault>
     ensures { result ≡ in_range value }
 {
-    match u32::try_from(value) {
-        Ok(number) => Ok(number),
-        Err(_) => Err(NumberFault::TooLarge),
-    }
+    u32::try_from(value).map_err(|_| NumberFault::TooLarge)
 }
 
 // What a first 0 and the octets behind it are: a number only if nothing follows.
@@ -65,12 +51,12 @@ fn read_after_zero(rest: &[u8]) -> Result<u32, NumberFault>
 fn read_digits(first: u8, rest: &[u8]) -> Result<u32, NumberFault>
     ensures { result ≡ read_digits (first ∷ rest.now) }
 {
-    if !is_digit(first) {
+    if !first.is_ascii_digit() {
         return Err(NumberFault::StrayOctet);
     }
     let mut value = u64::from(first - b'0');
     for octet in rest {
-        if !is_digit(*octet) {
+        if !octet.is_ascii_digit() {
             return Err(NumberFault::StrayOctet);
         }
         value = with_digit(value, *octet);

@@ -1,9 +1,12 @@
 // What was read of a line, with the line's number; a call and a fault as text.
-ghost use Rattle.std.specs.Prelude.{◌≤◌};
-ghost use Rattle.trace.specs.Texts.{Wrote, call_text, fault_text};
+ghost use Rattle.std.specs.Prelude.{◌≡◌, ◌≤◌, length};
+ghost use Rattle.arrayvec.specs.ArrayString.{array_string_len};
+ghost use Rattle.calls.specs.declared.call.Call.TheVariants.{Open, Enter};
+ghost use Rattle.trace.specs.Texts.{call_text, fault_text};
 
 use crate::fault::LineFault;
-use crate::text::{put, put_field};
+use crate::text::push_field;
+use arrayvec::ArrayString;
 use calls::call::Call;
 
 // The number of a line, counted from 1, and the call that it writes or its fault.
@@ -13,42 +16,66 @@ pub struct Reading {
     pub line: Result<Call, LineFault>,
 }
 
-// Writes the call as a line of a trace, without octet 10, to the front of the buffer, and answers its length.
-pub fn write_call(call: Call, out: &mut [u8; 96]) -> usize
-    ensures wrote { Wrote out.old 0 (call_text call) out.new result }
-    ensures short { result ≤ 63 }
+fn open_line(session: u32, weight: u32, limit: u32) -> ArrayString<96>
+    ensures octets { result.bytes ≡ call_text (Open session weight limit) }
+    ensures short { array_string_len result ≤ 63 }
+{
+    let mut line = ArrayString::new();
+    push_field(&mut line, "do=open session=", session);
+    push_field(&mut line, " weight=", weight);
+    push_field(&mut line, " limit=", limit);
+    line
+}
+
+fn enter_line(session: u32, length: u32, ticket: u32) -> ArrayString<96>
+    ensures octets { result.bytes ≡ call_text (Enter session length ticket) }
+    ensures short { array_string_len result ≤ 63 }
+{
+    let mut line = ArrayString::new();
+    push_field(&mut line, "do=enter session=", session);
+    push_field(&mut line, " length=", length);
+    push_field(&mut line, " ticket=", ticket);
+    line
+}
+
+fn word_line(word: &str) -> ArrayString<96>
+    requires { length word.now ≤ 63 }
+    ensures octets { result.bytes ≡ word.now }
+    ensures short { array_string_len result ≤ 63 }
+{
+    let mut line = ArrayString::new();
+    line.push_str(word);
+    line
+}
+
+// The call as a line of a trace, without octet 10.
+pub fn call_line(call: Call) -> ArrayString<96>
+    ensures octets { result.bytes ≡ call_text call }
+    ensures short { array_string_len result ≤ 63 }
 {
     match call {
         Call::Open {
             session,
             weight,
             limit,
-        } => {
-            let at = put_field(out, 0, b"do=open session=", session);
-            let at = put_field(out, at, b" weight=", weight);
-            put_field(out, at, b" limit=", limit)
-        }
+        } => open_line(session, weight, limit),
         Call::Enter {
             session,
             length,
             ticket,
-        } => {
-            let at = put_field(out, 0, b"do=enter session=", session);
-            let at = put_field(out, at, b" length=", length);
-            put_field(out, at, b" ticket=", ticket)
-        }
-        Call::Start => put(out, 0, b"do=start"),
-        Call::Finish => put(out, 0, b"do=finish"),
+        } => enter_line(session, length, ticket),
+        Call::Start => word_line("do=start"),
+        Call::Finish => word_line("do=finish"),
     }
 }
 
-// Writes the line about a faulty line to the front of the buffer, and answers its length.
-pub fn write_fault(at: u32, fault: LineFault, out: &mut [u8; 96]) -> usize
-    ensures wrote { Wrote out.old 0 (fault_text at fault) out.new result }
-    ensures short { result ≤ 96 }
+// Writes the line about a faulty line.
+pub fn write_fault(at: u32, fault: LineFault, line: &mut ArrayString<96>)
+    ensures { line.new.bytes ≡ fault_text at fault }
 {
-    let place = put_field(out, 0, b"at=", at);
-    let place = put_field(out, place, b" said=fault number=", fault.number());
-    let place = put_field(out, place, b" field=", fault.field());
-    put(out, place, b"\n")
+    line.clear();
+    push_field(line, "at=", at);
+    push_field(line, " said=fault number=", fault.number());
+    push_field(line, " field=", fault.field().unwrap_or(0));
+    line.push_str("\n");
 }

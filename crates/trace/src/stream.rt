@@ -1,5 +1,6 @@
 // A trace that comes in chunks.
-ghost use Rattle.std.specs.Prelude.{◌≡◌, ◌≤◌, length};
+use arrayvec::ArrayVec;
+use std::marker::Model;
 
 pub mod steps;
 
@@ -7,8 +8,14 @@ pub mod steps;
 #[derive(Drop)]
 pub struct LineReader {
     at: u32,
-    held: [u8; 81],
-    len: usize,
-    ghost wide: { length held ≡ 81 },
-    ghost few: { len ≤ 81 },
+    held: ArrayVec<u8, 81>,
+}
+
+// A contract sees the number and the octets.
+impl Model for LineReader {
+    ghost use Rattle.trace.specs.Streams.{Stream};
+
+    ghost Value = { Stream };
+
+    ghost view = { λ x. record { at = x.at; held = x.held.items } };
 }

@@ -1,69 +1,17 @@
-// Writing text into a caller's octets: words and decimal numbers, from a place on.
-ghost use Rattle.std.specs.Prelude.{◌≡◌, ◌+◌, ◌%◌, ◌≤◌, ◌++◌, length, decimal};
-ghost use Rattle.trace.specs.Texts.{Wrote};
+// Text that is put together from words and decimal numbers, of at most 96 octets.
+ghost use Rattle.std.specs.Prelude.{◌≡◌, ◌+◌, ◌≤◌, ◌++◌, length};
+ghost use Rattle.arrayvec.specs.ArrayString.{array_string_len};
 
-// Writes the piece, and answers the place behind it.
-pub(crate) fn put(out: &mut [u8], at: usize, piece: &[u8]) -> usize
-    requires { at + length piece.now ≤ length out.old }
-    ensures wrote { Wrote out.old at piece.now out.new result }
-{
-    let end = at + piece.len();
-    out[at..end].copy_from_slice(piece);
-    end
-}
+use arrayvec::ArrayString;
+use itoa::{Buffer, Integer};
 
-// How many digits the number has.
-fn decimal_len(number: u64) -> usize
-    ensures { result ≡ length (decimal number) }
+// Puts a name, which ends in `=`, and behind it the number to the end of the line.
+#[inline]
+pub(crate) fn push_field<I: Integer>(line: &mut ArrayString<96>, name: &str, number: I)
+    requires { array_string_len line.old + length name.now + I.MAX_STR_LEN ≤ 96 }
+    ensures octets { line.new.bytes ≡ line.old.bytes ++ (name.now ++ I.text number) }
+    ensures short { array_string_len line.new ≤ array_string_len line.old + length name.now + I.MAX_STR_LEN }
 {
-    let mut len = 1;
-    let mut rest = number;
-    while rest >= 10 {
-        rest /= 10;
-        len += 1;
-    }
-    len
-}
-
-fn digit(number: u64) -> u8
-    ensures { result ≡ 48 + number % 10 }
-{
-    b'0' + (number % 10) as u8
-}
-
-// Writes the number in decimal, and answers the place behind it.
-pub(crate) fn put_decimal(out: &mut [u8], at: usize, number: u64) -> usize
-    requires { at + length (decimal number) ≤ length out.old }
-    ensures wrote { Wrote out.old at (decimal number) out.new result }
-{
-    let end = at + decimal_len(number);
-    let mut place = end - 1;
-    let mut rest = number;
-    while rest >= 10 {
-        out[place] = digit(rest);
-        rest /= 10;
-        place -= 1;
-    }
-    out[place] = digit(rest);
-    end
-}
-
-// Writes a name, which ends in `=`, and behind it the number, which has at most ten digits.
-pub(crate) fn put_field(out: &mut [u8], at: usize, name: &[u8], number: u32) -> usize
-    requires { at + length name.now + 10 ≤ length out.old }
-    ensures wrote { Wrote out.old at (name.now ++ decimal number) out.new result }
-    ensures short { result ≤ at + length name.now + 10 }
-{
-    let middle = put(out, at, name);
-    put_decimal(out, middle, number as u64)
-}
-
-// The same for a number of 64 bits, which has at most twenty digits.
-pub(crate) fn put_wide_field(out: &mut [u8], at: usize, name: &[u8], number: u64) -> usize
-    requires { at + length name.now + 20 ≤ length out.old }
-    ensures wrote { Wrote out.old at (name.now ++ decimal number) out.new result }
-    ensures short { result ≤ at + length name.now + 20 }
-{
-    let middle = put(out, at, name);
-    put_decimal(out, middle, number)
+    line.push_str(name);
+    line.push_str(Buffer::new().format(number));
 }

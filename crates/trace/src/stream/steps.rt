@@ -1,15 +1,14 @@
 // The steps over a trace that comes in chunks: one line at a time.
-ghost use Rattle.std.specs.Prelude.{◌≡◌, ◌<◌, length, IfSome};
+ghost use Rattle.std.specs.Prelude.{◌≡◌, ◌<◌, ◌++◌, length, IfSome};
 ghost use Rattle.std.specs.Option.{option_map};
 ghost use Rattle.trace.specs.Cuts.{split_once};
-ghost use Rattle.trace.specs.Readers.{stream_of};
-ghost use Rattle.trace.specs.Streams.{begin, next_at, after_part, line_ended, after_line, next_reading, after_next, last_reading};
+ghost use Rattle.trace.specs.Streams.{begin, kept, next_at, after_part, line_ended, after_line, next_reading, after_next, last_reading};
 
 use crate::cut::split_once;
 use crate::line::read_line;
 use crate::reading::Reading;
 use crate::stream::LineReader;
-use crate::text::put;
+use arrayvec::ArrayVec;
 
 // The number of the line behind the one with this number. It stays at the largest.
 pub fn next_at(at: u32) -> u32
@@ -18,51 +17,59 @@ pub fn next_at(at: u32) -> u32
     at.saturating_add(1)
 }
 
+// Puts the part to the end, as much of it as there is room for.
+#[tactic(auto, using(crate::proofs::Streaming::held_more))]
+fn keep(held: &mut ArrayVec<u8, 81>, part: &[u8])
+    ensures { held.new.items ≡ kept (held.old.items ++ part.now) }
+{
+    let n = part.len().min(held.remaining_capacity());
+    held.try_extend_from_slice(&part[..n]).unwrap();
+}
+
 impl LineReader {
     pub fn new() -> LineReader
-        ensures { stream_of result ≡ begin }
+        ensures { result ≡ begin }
     {
         LineReader {
             at: 1,
-            held: [0; 81],
-            len: 0,
+            held: ArrayVec::new(),
         }
     }
 
     // Keeps a part of the line for later.
     fn hold(&mut self, part: &[u8])
-        ensures { stream_of self.new ≡ after_part (stream_of self.old) part.now }
+        ensures { self.new ≡ after_part self.old part.now }
     {
-        let n = part.len().min(81 - self.len);
-        self.len = put(&mut self.held, self.len, &part[0..n]);
+        keep(&mut self.held, part);
     }
 
     // Reads the line that ends with this part, and goes on to the next.
+    #[tactic(auto, using(crate::proofs::Streaming::line_alone))]
     fn end_line(&mut self, part: &[u8]) -> Reading
-        ensures reading { result ≡ line_ended (stream_of self.old) part.now }
-        ensures after { stream_of self.new ≡ after_line (stream_of self.old) }
+        ensures reading { result ≡ line_ended self.old part.now }
+        ensures after { self.new ≡ after_line self.old }
     {
         let at = self.at;
         self.at = next_at(at);
-        if self.len == 0 {
+        if self.held.is_empty() {
             return Reading {
                 at,
                 line: read_line(part),
             };
         }
         self.hold(part);
-        let line = read_line(&self.held[0..self.len]);
-        self.len = 0;
+        let line = read_line(&self.held);
+        self.held.clear();
         Reading { at, line }
     }
 
     // What the line that ends in the chunk says, and what is left of the chunk; nothing where none ends in it.
     pub fn next<'a>(&mut self, chunk: &'a [u8]) -> Option<(Reading, &'a [u8])>
-        ensures reading { option_map (λ p. (p.0, p.1.now)) result ≡ next_reading (stream_of self.old) (split_once 10 chunk.now) }
-        ensures after { stream_of self.new ≡ after_next (stream_of self.old) chunk.now (split_once 10 chunk.now) }
+        ensures reading { option_map (λ p. (p.0, p.1.now)) result ≡ next_reading self.old (split_once 10 chunk.now) }
+        ensures after { self.new ≡ after_next self.old chunk.now (split_once 10 chunk.now) }
         ensures shorter { IfSome result (λ p. length p.1.now < length chunk.now) }
     {
-        match split_once(chunk, 10) {
+        match split_once(chunk, b'\n') {
             Some((part, rest)) => Some((self.end_line(part), rest)),
             None => {
                 self.hold(chunk);
@@ -73,14 +80,14 @@ impl LineReader {
 
     // What the last line says, where no octet 10 ends it and it is not empty.
     pub fn last(&self) -> Option<Reading>
-        ensures { result ≡ last_reading (stream_of self.now) }
+        ensures { result ≡ last_reading self.now }
     {
-        if self.len == 0 {
+        if self.held.is_empty() {
             return None;
         }
         Some(Reading {
             at: self.at,
-            line: read_line(&self.held[0..self.len]),
+            line: read_line(&self.held),
         })
     }
 }

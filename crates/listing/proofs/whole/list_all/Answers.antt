@@ -7,7 +7,7 @@ pub returns : goal.returns
 returns c =
     record {
       wrote =
-          listing_wrote c.args.trace.now (state c.new-lister.result.line) (state c.put_lines-end.new.self.line) c.new-lister.ensures
+          listing_wrote c.args.trace.now (state c.new-lister.result) (state c.put_lines-end.new.self) c.new-lister.ensures
           c.put_lines-end.ensures.after c.put_lines-end.ensures.wrote c.put_closings.ensures.wrote;
       short = omega (arith, c.put_lines-end.ensures.short, c.put_closings.ensures.short);
     }

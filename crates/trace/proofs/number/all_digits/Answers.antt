@@ -1,16 +1,9 @@
-use Rattle.std.proofs.Common.{true, false, sym, ◌∙◌, rules}
-use Rattle.std.proofs.lemmas.List.{at_drop_all}
-use Rattle.trace.specs.Numbers.{all_digits}
-use Rattle.trace.proofs.Digits.{all_digits_at}
+use Rattle.std.proofs.Common.{rules, tests}
+use Rattle.std.proofs.lemmas.Iterator.{YieldsList-from_slice}
+use Rattle.std.proofs.lemmas.Iterator.Search.{all_from_yields_List}
+use Rattle.trace.specs.Numbers.{is_digit}
 use Rattle.trace.proofs.number.all_digits.Goals as goal
 
-pub returns-then-not-is_digit : goal.returns-then-not-is_digit
-returns-then-not-is_digit c =
-    sym (all_digits_at _ _ c.loop-octet-test.true false (sym c.if-not-is_digit.ensures)) ∙ c.loop-octet.invariant
-
-pub loop-octet-preserved : goal.loop-octet-preserved
-loop-octet-preserved c =
-    sym (all_digits_at _ _ c.loop-octet-test.true true (sym c.if-not-is_digit.ensures)) ∙ c.loop-octet.invariant
-
 pub returns : goal.returns
-returns c = search (rules, at_drop_all all_digits)
+returns c =
+    all_from_yields_List is_digit _ _ c.all.result c.all.ensures.ran (YieldsList-from_slice c.args.octets.now cc) (λ x b q k. search (rules, tests))

@@ -4,18 +4,18 @@ use Rattle.trace.proofs.Digits.{read_after, read_first, read_stray, read_step, h
 use Rattle.std.proofs.lemmas.List.{at_drop_all}
 use Rattle.trace.proofs.number.read_digits.Goals as goal
 
-pub returns-then-not-is_digit-2 : goal.returns-then-not-is_digit-2
-returns-then-not-is_digit-2 c =
-    sym (read_stray _ _ c.loop-octet-test.true c.loop-octet.value (sym c.if-not-is_digit-2.ensures))
+pub returns-then-not-is_ascii_digit-2 : goal.returns-then-not-is_ascii_digit-2
+returns-then-not-is_ascii_digit-2 c =
+    sym (read_stray _ _ c.loop-octet-test.true c.loop-octet.value (sym c.if-not-is_ascii_digit-2.ensures.value))
     ∙ c.loop-octet.invariant.1
-    ∙ sym (read_first c.args.first c.args.rest.now true (sym c.if-not-is_digit.ensures))
+    ∙ sym (read_first c.args.first c.args.rest.now true (sym c.if-not-is_ascii_digit.ensures.value))
 
 pub loop-octet-preserved : goal.loop-octet-preserved
 loop-octet-preserved c = (
   omega (arith, c.with_digit-value.ensures, min-le_right (c.loop-octet.value * 10 + (get_or c.args.rest.now c.loop-octet.octet-index 0 - 48)) 4294967296),
   ap (λ n. read_after n (drop (c.loop-octet.octet-index + 1) c.args.rest.now)) c.with_digit-value.ensures
       ∙ held (c.loop-octet.value * 10 + (get_or c.args.rest.now c.loop-octet.octet-index 0 - 48)) (drop (c.loop-octet.octet-index + 1) c.args.rest.now)
-      ∙ sym (read_step _ _ c.loop-octet-test.true c.loop-octet.value (sym c.if-not-is_digit-2.ensures))
+      ∙ sym (read_step _ _ c.loop-octet-test.true c.loop-octet.value (sym c.if-not-is_ascii_digit-2.ensures.value))
       ∙ c.loop-octet.invariant.1,
 )
 
@@ -24,4 +24,4 @@ returns c =
     c.in_range.ensures
     ∙ sym (at_drop_all (read_after c.loop-octet.value) c.args.rest.now c.loop-octet.octet-index c.loop-octet-test.false)
     ∙ c.loop-octet.invariant.1
-    ∙ sym (read_first c.args.first c.args.rest.now true (sym c.if-not-is_digit.ensures))
+    ∙ sym (read_first c.args.first c.args.rest.now true (sym c.if-not-is_ascii_digit.ensures.value))
