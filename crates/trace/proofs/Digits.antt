@@ -24,9 +24,6 @@ read_first c cs false e =
     ap (λ t. cond (t && all_digits cs) (in_range (value_after (0 * 10 + (c - 48)) cs)) (Err StrayOctet)) e
 
 module _ (xs : List ℕ) (i : ℕ) (within : i < length xs) where
-  pub all_digits_at : (b : Bool) → is_digit (get_or xs i 0) ≡ b → all_digits (drop i xs) ≡ (b && all_digits (drop (i + 1) xs))
-  all_digits_at b e = at_drop_more all_digits xs i 0 within ∙ ap (λ t. t && all_digits (drop (i + 1) xs)) e
-
   read_at : (n : ℕ) (b : Bool) → is_digit (get_or xs i 0) ≡ b → read_after n (drop i xs) ≡
       cond (b && all_digits (drop (i + 1) xs)) (in_range (value_after (n * 10 + (get_or xs i 0 - 48)) (drop (i + 1) xs))) (Err StrayOctet)
   read_at n b e =

@@ -6,4 +6,3 @@ pub mod OneText
 pub mod Parts
 pub mod ReadBack
 pub mod Streaming
-pub mod Words

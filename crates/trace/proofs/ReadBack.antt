@@ -17,7 +17,7 @@ use Rattle.trace.specs.Fields.{field_of, key_name, has_name, keyed}
 use Rattle.trace.specs.Laws.{CallsReadBack}
 use Rattle.trace.specs.Lines.{value_at, of_field, numbered, of_line, call_of, read_values, read_call, read_line, then}
 use Rattle.trace.specs.Numbers.{is_digit, all_digits, read_number}
-use Rattle.trace.specs.Texts.{join, order_text, call_text, value_text}
+use Rattle.trace.specs.Texts.{join, order_text, value_text}
 use Rattle.trace.proofs.OneText.{own, reads_back}
 use Rattle.trace.proofs.Parts.{split_join}
 

@@ -1,5 +1,5 @@
 -- A trace that comes in chunks: what is held of a line, and that the cuts between the chunks do not matter.
-use Rattle.std.proofs.Common.{◌≡◌, ℕ, ◌+◌, ◌<◌, ◌≤◌, min, true, cond, eqb, List, [], ◌∷◌, ◌++◌, length, take, Some, Err, sym, refl, ap, ◌∙◌, ⊎_elim, arith}
+use Rattle.std.proofs.Common.{◌≡◌, ℕ, ◌+◌, min, true, cond, eqb, List, [], ◌∷◌, ◌++◌, length, take, Err, sym, ap, ◌∙◌, ⊎_elim, arith}
 use Rattle.std.proofs.Math.Nat.{min_comm}
 use Rattle.std.proofs.Math.Seq.{take-append-add}
 use Rattle.std.proofs.lemmas.List.{length-take-le, take_all, take_min}
@@ -7,7 +7,7 @@ use Rattle.std.proofs.lemmas.Bool.{cases_lt, lt-ltb, eqb-true}
 use Rattle.trace.specs.declared.fault.LineFault.TheVariants.{TooLong}
 use Rattle.trace.specs.Cuts.{split}
 use Rattle.trace.specs.Lines.{read_line, of_line, read_call}
-use Rattle.trace.specs.Streams.{kept, held_reading}
+use Rattle.trace.specs.Streams.{kept}
 
 -- what is held after a part of the line was put behind it
 pub held_more : (held part : List ℕ) (room n : ℕ) → room + length held ≡ 81 → n ≡ min (length part) room → held ++ take n part ≡ kept (held ++ part)
@@ -32,7 +32,3 @@ kept_reads line =
 pub line_alone : (held part : List ℕ) → (eqb (length held) 0) ≡ true → read_line part ≡ read_line (kept (held ++ part))
 line_alone [] part none = sym (kept_reads part)
 line_alone (c ∷ cs) part none = let no : ⊥ = omega (arith, eqb-true (length (c ∷ cs)) 0 none) in absurd no
-
-pub held_some : (at : ℕ) (xs : List ℕ) → 0 < length xs → held_reading at xs ≡ Some (record { at = at; line = read_line xs })
-held_some at [] some = let no : ⊥ = omega arith in absurd no
-held_some at (c ∷ cs) some = refl

@@ -1,5 +1,6 @@
 // A field of a trace line: what stands between two spaces.
 ghost use Rattle.std.specs.Prelude.{◌≡◌};
+ghost use Rattle.std.specs.Str.{bytes_eq};
 ghost use Rattle.trace.specs.Fields.{field_of, said_by, key_name, has_name, order_of};
 
 use crate::cut::split_once;
@@ -34,6 +35,12 @@ pub enum Key {
     Ticket,
 }
 
+fn same(octets: &[u8], text: &[u8]) -> bool
+    ensures { result ≡ bytes_eq octets.now text.now }
+{
+    octets == text
+}
+
 impl Key {
     // The key as it is written before the `=`.
     pub fn name(self) -> &'static [u8]
@@ -58,16 +65,19 @@ impl Key {
 
 impl Order {
     // The order that the word names.
-    #[tactic(auto, using(crate::proofs::Words::finish_named))]
     pub fn named(word: &[u8]) -> Option<Order>
         ensures { result ≡ order_of word.now }
     {
-        match word {
-            b"open" => Some(Order::Open),
-            b"enter" => Some(Order::Enter),
-            b"start" => Some(Order::Start),
-            b"finish" => Some(Order::Finish),
-            _ => None,
+        if same(word, b"open") {
+            Some(Order::Open)
+        } else if same(word, b"enter") {
+            Some(Order::Enter)
+        } else if same(word, b"start") {
+            Some(Order::Start)
+        } else if same(word, b"finish") {
+            Some(Order::Finish)
+        } else {
+            None
         }
     }
 }
@@ -76,8 +86,13 @@ pub fn read_field(text: &[u8]) -> Field<'_>
     ensures { said_by result ≡ field_of text.now }
 {
     match split_once(text, b'=') {
-        Some((b"do", word)) => Field::Order(word),
-        Some((key, value)) => Field::Keyed(key, value),
+        Some((key, value)) => {
+            if same(key, b"do") {
+                Field::Order(value)
+            } else {
+                Field::Keyed(key, value)
+            }
+        }
         None => Field::Other(text),
     }
 }

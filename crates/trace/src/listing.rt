@@ -23,18 +23,8 @@ fn session_of(call: Call) -> u32
     ensures { result ≡ session_of call }
 {
     match call {
-        Call::Open {
-            session,
-            weight: _,
-            limit: _,
-        } => session,
-        Call::Enter {
-            session,
-            length: _,
-            ticket: _,
-        } => session,
-        Call::Start => 0,
-        Call::Finish => 0,
+        Call::Open { session, .. } | Call::Enter { session, .. } => session,
+        Call::Start | Call::Finish => 0,
     }
 }
 
