@@ -86,13 +86,8 @@ pub fn read_field(text: &[u8]) -> Field<'_>
     ensures { said_by result ≡ field_of text.now }
 {
     match split_once(text, b'=') {
-        Some((key, value)) => {
-            if same(key, b"do") {
-                Field::Order(value)
-            } else {
-                Field::Keyed(key, value)
-            }
-        }
+        Some((b"do", word)) => Field::Order(word),
+        Some((key, value)) => Field::Keyed(key, value),
         None => Field::Other(text),
     }
 }
