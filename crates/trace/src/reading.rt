@@ -69,7 +69,7 @@ pub fn call_line(call: Call) -> ArrayString<96>
     }
 }
 
-// Writes the line about a faulty line.
+// Writes the line about a faulty line, in place of what the text held.
 pub fn write_fault(at: u32, fault: LineFault, line: &mut ArrayString<96>)
     ensures { line.new.bytes ≡ fault_text at fault }
 {

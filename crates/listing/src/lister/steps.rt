@@ -38,7 +38,7 @@ impl Lister {
         apply(&mut self.line, call)
     }
 
-    // Makes the call that was read, if there is one, and answers the line about it.
+    // Makes the call that was read, if there is one, and writes the line about it, in place of what the text held.
     #[tactic(auto, using(crate::proofs::Tellings::goes_on))]
     pub fn write_reading(&mut self, reading: Reading, line: &mut ArrayString<96>)
         ensures octets { line.new.bytes ≡ reading_text (state self.old) reading }
