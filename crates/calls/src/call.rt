@@ -1,6 +1,9 @@
 // The calls of a line and their answers.
 use crate::refusal::Refusal;
 
+// The most octets that a packet of any session has.
+pub const LONGEST_PACKET: u32 = 65_535;
+
 // A piece of a message. The ticket is the host's own; the mark is given when the packet enters.
 #[derive(Clone, Copy, PartialEq, Eq, Debug)]
 pub struct Packet {

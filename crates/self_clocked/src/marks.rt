@@ -2,14 +2,12 @@
 ghost use Rattle.std.specs.Prelude.{◌≡◌, ◌/◌, ◌<◌, min};
 ghost use Rattle.self_clocked.specs.Marks.{mark_answer_from, under_ceiling, reach_answer_from};
 
+use calls::call::LONGEST_PACKET;
 use calls::refusal::Refusal;
 use calls::stride::{charge, stride};
 
 // No mark is above it.
 const CEILING: u64 = 9_223_372_036_854_775_807;
-
-// No packet is longer.
-const LONGEST: u64 = 65_535;
 
 // Refuses a mark above the ceiling.
 fn check_ceiling(mark: u64) -> Result<u64, Refusal>
@@ -35,7 +33,7 @@ fn octets_within(left: u64, stride: u32) -> u32
     requires { 0 < stride }
     ensures { result ≡ min (left / stride) 65535 }
 {
-    (left / u64::from(stride)).min(LONGEST) as u32
+    (left / u64::from(stride)).min(u64::from(LONGEST_PACKET)) as u32
 }
 
 // The longest length up to 65,535 whose mark from this base is not above the ceiling, or 0.

@@ -10,7 +10,7 @@ ghost use Rattle.sessions.specs.Verdicts.{verdict, served};
 
 use crate::condition::{Condition, Event};
 use crate::seat::Account;
-use calls::call::{Packet, Service, Terms};
+use calls::call::{LONGEST_PACKET, Packet, Service, Terms};
 use calls::refusal::{Refusal, check_within};
 use calls::session::{SESSIONS, place_of};
 use calls::stride::charge;
@@ -51,7 +51,7 @@ impl Parts {
     {
         let place = place_of(session)?;
         check_within(terms.weight, 16, Refusal::BadWeight)?;
-        check_within(terms.limit, 65535, Refusal::BadLimit)?;
+        check_within(terms.limit, LONGEST_PACKET, Refusal::BadLimit)?;
         if self.seats[place].is_some() {
             return Err(Refusal::AlreadyOpen);
         }

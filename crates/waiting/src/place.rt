@@ -49,7 +49,7 @@ impl Queue {
             head: if self.count == 0 { place } else { self.head },
             tail: place,
             count: self.count + 1,
-            lengths: self.lengths + length as u64,
+            lengths: self.lengths + u64::from(length),
         }
     }
 
@@ -62,7 +62,7 @@ impl Queue {
             head: next,
             tail: self.tail,
             count: self.count - 1,
-            lengths: self.lengths - length as u64,
+            lengths: self.lengths - u64::from(length),
         }
     }
 }

@@ -12,12 +12,10 @@ ghost use Rattle.sessions.proofs.Using.{open_in_order, at_most_256};
 
 use crate::line::FirstCome;
 use crate::ring::Ring;
-use calls::call::{Packet, Service, Terms};
+use calls::call::{LONGEST_PACKET, Packet, Service, Terms};
 use calls::refusal::Refusal;
 use discipline::discipline::Discipline;
 use sessions::state::Sessions;
-
-const REACH: u32 = 65535;
 
 // A packet with the mark 0.
 fn unmarked(length: u32, ticket: u32) -> Packet
@@ -140,7 +138,7 @@ impl Discipline for FirstCome {
 
     fn reach(&self, session: u32) -> Result<u32, Refusal> {
         self.sessions.terms(session)?;
-        Ok(REACH)
+        Ok(LONGEST_PACKET)
     }
 
     fn in_service(&self) -> Option<Service> {
