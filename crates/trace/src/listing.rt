@@ -1,10 +1,10 @@
 // The lines of a listing: what was said to each call, and how each open session stands at the end.
-ghost use Rattle.std.specs.Prelude.{◌≡◌, ◌+◌, ◌≤◌, [], ◌++◌, codes, decimal, Ok, Err};
+ghost use Rattle.std.specs.Prelude.{◌≡◌, ◌+◌, ◌≤◌, ◌++◌, codes, decimal, Ok, Err};
 ghost use Rattle.arrayvec.specs.ArrayString.{array_string_len};
 ghost use Rattle.calls.specs.declared.call.Reply.TheVariants.{Started, Finished, Entered, Opened};
 ghost use Rattle.trace.specs.Texts.{session_of, answer_text, closing_text};
 
-use crate::text::push_field;
+use crate::text::{begin_line, push_field};
 use arrayvec::ArrayString;
 use calls::call::{Answer, Call, Packet, Reply, Service};
 use calls::refusal::Refusal;
@@ -29,19 +29,17 @@ fn session_of(call: Call) -> u32
 }
 
 fn push_opened(line: &mut ArrayString<96>, at: u32, call: Call)
-    requires { line.old.bytes ≡ [] }
     ensures { line.new.bytes ≡ answer_text at call (Ok Opened) }
 {
-    push_field(line, "at=", at);
+    begin_line(line, at);
     push_field(line, " said=opened session=", session_of(call));
     line.push_str("\n");
 }
 
 fn push_entered(line: &mut ArrayString<96>, at: u32, call: Call, mark: u64)
-    requires { line.old.bytes ≡ [] }
     ensures { line.new.bytes ≡ answer_text at call (Ok (Entered mark)) }
 {
-    push_field(line, "at=", at);
+    begin_line(line, at);
     push_field(line, " said=entered session=", session_of(call));
     push_field(line, " mark=", mark);
     line.push_str("\n");
@@ -57,10 +55,9 @@ fn push_ticket(line: &mut ArrayString<96>, packet: Packet)
 }
 
 fn push_started(line: &mut ArrayString<96>, at: u32, call: Call, service: Service)
-    requires { line.old.bytes ≡ [] }
     ensures { line.new.bytes ≡ answer_text at call (Ok (Started service)) }
 {
-    push_field(line, "at=", at);
+    begin_line(line, at);
     push_field(line, " said=started session=", service.session);
     push_ticket(line, service.packet);
     push_field(line, " mark=", service.packet.mark);
@@ -68,10 +65,9 @@ fn push_started(line: &mut ArrayString<96>, at: u32, call: Call, service: Servic
 }
 
 fn push_finished(line: &mut ArrayString<96>, at: u32, call: Call, service: Service)
-    requires { line.old.bytes ≡ [] }
     ensures { line.new.bytes ≡ answer_text at call (Ok (Finished service)) }
 {
-    push_field(line, "at=", at);
+    begin_line(line, at);
     push_field(line, " said=finished session=", service.session);
     push_ticket(line, service.packet);
     push_field(line, " length=", service.packet.length);
@@ -79,10 +75,9 @@ fn push_finished(line: &mut ArrayString<96>, at: u32, call: Call, service: Servi
 }
 
 fn push_refused(line: &mut ArrayString<96>, at: u32, call: Call, reason: Refusal)
-    requires { line.old.bytes ≡ [] }
     ensures { line.new.bytes ≡ answer_text at call (Err reason) }
 {
-    push_field(line, "at=", at);
+    begin_line(line, at);
     push_field(line, " said=refused number=", reason.number());
     line.push_str("\n");
 }
@@ -92,7 +87,6 @@ fn push_refused(line: &mut ArrayString<96>, at: u32, call: Call, reason: Refusal
 pub fn write_answer(at: u32, call: Call, answer: Answer, line: &mut ArrayString<96>)
     ensures { line.new.bytes ≡ answer_text at call answer }
 {
-    line.clear();
     match answer {
         Ok(Reply::Opened) => push_opened(line, at, call),
         Ok(Reply::Entered { mark }) => push_entered(line, at, call, mark),

@@ -1,11 +1,10 @@
 // What was read of a line, with the line's number; a call and a fault as text.
 ghost use Rattle.std.specs.Prelude.{◌≡◌, ◌≤◌, length};
-ghost use Rattle.arrayvec.specs.ArrayString.{array_string_len};
 ghost use Rattle.calls.specs.declared.call.Call.TheVariants.{Open, Enter};
 ghost use Rattle.trace.specs.Texts.{call_text, fault_text};
 
 use crate::fault::LineFault;
-use crate::text::push_field;
+use crate::text::{begin_line, push_field};
 use arrayvec::ArrayString;
 use calls::call::Call;
 
@@ -16,9 +15,8 @@ pub struct Reading {
     pub line: Result<Call, LineFault>,
 }
 
-fn open_line(session: u32, weight: u32, limit: u32) -> ArrayString<96>
-    ensures octets { result.bytes ≡ call_text (Open session weight limit) }
-    ensures short { array_string_len result ≤ 63 }
+fn open_line(session: u32, weight: u32, limit: u32) -> ArrayString<63>
+    ensures { result.bytes ≡ call_text (Open session weight limit) }
 {
     let mut line = ArrayString::new();
     push_field(&mut line, "do=open session=", session);
@@ -27,9 +25,8 @@ fn open_line(session: u32, weight: u32, limit: u32) -> ArrayString<96>
     line
 }
 
-fn enter_line(session: u32, length: u32, ticket: u32) -> ArrayString<96>
-    ensures octets { result.bytes ≡ call_text (Enter session length ticket) }
-    ensures short { array_string_len result ≤ 63 }
+fn enter_line(session: u32, length: u32, ticket: u32) -> ArrayString<63>
+    ensures { result.bytes ≡ call_text (Enter session length ticket) }
 {
     let mut line = ArrayString::new();
     push_field(&mut line, "do=enter session=", session);
@@ -38,10 +35,9 @@ fn enter_line(session: u32, length: u32, ticket: u32) -> ArrayString<96>
     line
 }
 
-fn word_line(word: &str) -> ArrayString<96>
+fn word_line(word: &str) -> ArrayString<63>
     requires { length word.now ≤ 63 }
-    ensures octets { result.bytes ≡ word.now }
-    ensures short { array_string_len result ≤ 63 }
+    ensures { result.bytes ≡ word.now }
 {
     let mut line = ArrayString::new();
     line.push_str(word);
@@ -49,9 +45,8 @@ fn word_line(word: &str) -> ArrayString<96>
 }
 
 // The call as a line of a trace, without octet 10.
-pub fn call_line(call: Call) -> ArrayString<96>
-    ensures octets { result.bytes ≡ call_text call }
-    ensures short { array_string_len result ≤ 63 }
+pub fn call_line(call: Call) -> ArrayString<63>
+    ensures { result.bytes ≡ call_text call }
 {
     match call {
         Call::Open {
@@ -73,8 +68,7 @@ pub fn call_line(call: Call) -> ArrayString<96>
 pub fn write_fault(at: u32, fault: LineFault, line: &mut ArrayString<96>)
     ensures { line.new.bytes ≡ fault_text at fault }
 {
-    line.clear();
-    push_field(line, "at=", at);
+    begin_line(line, at);
     push_field(line, " said=fault number=", fault.number());
     push_field(line, " field=", fault.field().unwrap_or(0));
     line.push_str("\n");
