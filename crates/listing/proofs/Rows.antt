@@ -18,7 +18,7 @@ use Rattle.std.specs.Option.{option_map}
 use Rattle.trace.specs.declared.listing.Closing.{Closing}
 use Rattle.listing.specs.Texts.{Wrote}
 use Rattle.listing.specs.Listings.{ends_in, said_of, after_line, calls_of, told_on, closing_at, standing_text, closing_line, closings_below}
-use Rattle.listing.proofs.Writing.{wrote_both, wrote_as, wrote_none}
+use Rattle.listing.proofs.Writing.{part_from, with_part, wrote_then, wrote_as, wrote_none}
 
 -- ---- the lines of a trace
 
@@ -77,10 +77,10 @@ module _ (x : Clocked) (trace before : List ℕ) (y : Clocked) (at : ℕ) (rest 
     pub listed_room : end + 96 ≤ 96 * length (lines_of trace)
     listed_room = omega (arith, so_far.few, ap length first)
 
-    module _ (z : Clocked) (out : List ℕ) (place : ℕ) (wrote : Wrote after end (said_of y at (read_line line)) out place) (short : place ≤ end + 96)
-        (to : z ≡ after_line y (read_line line)) (within : 96 * length (lines_of trace) ≤ length before) where
-      first_wrote : Wrote before 0 (so_far.text ++ said_of y at (read_line line)) out place
-      first_wrote = wrote_both (omega arith) so_far.wrote wrote
+    module _ (z : Clocked) (part : List ℕ) (n : ℕ) (wrote : Wrote (part_from end after) 0 (said_of y at (read_line line)) part n)
+        (short : n ≤ 96) (to : z ≡ after_line y (read_line line)) (within : 96 * length (lines_of trace) ≤ length before) where
+      first_wrote : Wrote before 0 (so_far.text ++ said_of y at (read_line line)) (with_part end after part) (end + n)
+      first_wrote = wrote_then (omega arith) so_far.wrote wrote
 
       first_lines : told_on x (readings trace) ≡ (so_far.text ++ said_of y at (read_line line)) ++ told_on z (readings_from (next_at at) others)
       first_lines =
@@ -95,7 +95,8 @@ module _ (x : Clocked) (trace before : List ℕ) (y : Clocked) (at : ℕ) (rest 
           after_first_call y at (read_line line) (readings_from (next_at at) others) ∙
           ap (λ v. after_calls v (calls_of (readings_from (next_at at) others))) (sym to)
 
-      pub listed_more : (left : List ℕ) (next : ℕ) → others ≡ lines_of left → next ≡ next_at at → Listed x trace before z next left out place
+      pub listed_more : (left : List ℕ) (next : ℕ) → others ≡ lines_of left → next ≡ next_at at →
+          Listed x trace before z next left (with_part end after part) (end + n)
       listed_more left next rest-is next_is =
           record {
             text = so_far.text ++ said_of y at (read_line line);
@@ -214,7 +215,8 @@ pub closings_none : (m : Meaning) (before : List ℕ) (start : ℕ) → Wrote be
 unfolding closings_below
 closings_none m before start = wrote_none before start
 
-pub closings_more : (m : Meaning) (n : ℕ) {before after out : List ℕ} {start end place : ℕ} → start ≤ length before → Wrote before start (closings_below n m) after end →
-    Wrote after end (closing_line (closing_at m n)) out place → Wrote before start (closings_below (n + 1) m) out place
+pub closings_more : (m : Meaning) (n : ℕ) {before after part : List ℕ} {start end count : ℕ} → start ≤ length before → Wrote before start (closings_below n m) after end →
+    Wrote (part_from end after) 0 (closing_line (closing_at m n)) part count →
+    Wrote before start (closings_below (n + 1) m) (with_part end after part) (end + count)
 unfolding closings_below
-closings_more m n within so_far more = rw add-one (wrote_both within so_far more)
+closings_more m n within so_far more = rw add-one (wrote_then within so_far more)

@@ -1,5 +1,5 @@
 -- The whole listing in the buffer.
-use Rattle.std.proofs.Common.{◌≡◌, ℕ, ◌≤◌, leb, List, ◌++◌, length, drop, None, Ok, Err, sym, ap, ◌∙◌, zero-add, arith}
+use Rattle.std.proofs.Common.{◌≡◌, ℕ, ◌+◌, ◌≤◌, leb, List, ◌++◌, length, drop, None, Ok, Err, sym, ap, ◌∙◌, zero-add, arith}
 use Rattle.std.proofs.lemmas.Bool.{leb-true}
 use Rattle.calls.specs.declared.refusal.Refusal.{Refusal}
 use Rattle.calls.specs.declared.refusal.Refusal.TheVariants.{ShortBuffer, LongTrace}
@@ -11,17 +11,18 @@ use Rattle.self_clocked.specs.Rows.{new_line, after_calls}
 use Rattle.trace.specs.Streams.{lines_of, readings}
 use Rattle.listing.specs.Texts.{put_at, Wrote}
 use Rattle.listing.specs.Listings.{calls_of, told_on, closings_below, listing_of, listing, octets_for, list_refusal, list_answer, listed_over}
-use Rattle.listing.proofs.Writing.{wrote_both, wrote_as}
+use Rattle.listing.proofs.Writing.{part_from, with_part, wrote_then, wrote_as}
 
 -- the lines, and then the closing lines
-pub listing_wrote : (trace : List ℕ) (x y : Clocked) {before middle after : List ℕ} {place end : ℕ} → x ≡ new_line →
+pub listing_wrote : (trace : List ℕ) (x y : Clocked) {before middle part : List ℕ} {place n : ℕ} → x ≡ new_line →
     y ≡ after_calls x (calls_of (readings trace)) → Wrote before 0 (told_on x (readings trace)) middle place →
-    Wrote middle place (closings_below 64 y.meaning) after end → Wrote before 0 (listing trace) after end
+    Wrote (part_from place middle) 0 (closings_below 64 y.meaning) part n →
+    Wrote before 0 (listing trace) (with_part place middle part) (place + n)
 unfolding listing listing_of
 listing_wrote trace x y new to lines closings =
     wrote_as (told_on x (readings trace) ++ closings_below 64 y.meaning) (listing trace)
     ((λ i. told_on (new i) (readings trace) ++ closings_below 64 ((to ∙ ap (λ z. after_calls z (calls_of (readings trace))) new) i).meaning))
-    (wrote_both (omega arith) lines closings)
+    (wrote_then (omega arith) lines closings)
 
 front : (out text : List ℕ) → put_at out 0 text ≡ text ++ drop (length text) out
 unfolding put_at

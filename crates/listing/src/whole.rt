@@ -67,22 +67,22 @@ fn check_sizes(trace: &[u8], out: &[u8]) -> Result<(), Refusal>
     Ok(())
 }
 
-// Writes the text over the octets from the place on, and answers the place behind it.
-fn put(out: &mut [u8], at: usize, text: &[u8]) -> usize
-    requires { at + length text.now ≤ length out.old }
-    ensures { Wrote out.old at text.now out.new result }
+// Writes the text to the front of the buffer, and answers how many octets it has.
+#[tactic(auto, using(crate::proofs::Writing::wrote_front))]
+fn put(text: &[u8], out: &mut [u8]) -> usize
+    requires { length text.now ≤ length out.old }
+    ensures { Wrote out.old 0 text.now out.new result }
 {
-    let end = at + text.len();
-    out[at..end].copy_from_slice(text);
-    end
+    out[..text.len()].copy_from_slice(text);
+    text.len()
 }
 
 impl Lister {
-    // Makes the call of one line and writes the line about it. Answers the place behind the text.
-    fn put_line(&mut self, at: u32, line: &[u8], out: &mut [u8], start: usize) -> usize
-        requires { start + 96 ≤ length out.old }
-        ensures wrote { Wrote out.old start (said_of (state self.old) at (read_line line.now)) out.new result }
-        ensures short { result ≤ start + 96 }
+    // Makes the call of one line and writes the line about it. Answers how many octets it wrote.
+    fn put_line(&mut self, at: u32, line: &[u8], out: &mut [u8]) -> usize
+        requires { 96 ≤ length out.old }
+        ensures wrote { Wrote out.old 0 (said_of (state self.old) at (read_line line.now)) out.new result }
+        ensures short { result ≤ 96 }
         ensures after { state self.new ≡ after_line (state self.old) (read_line line.now) }
     {
         let reading = Reading {
@@ -91,10 +91,10 @@ impl Lister {
         };
         let mut text = ArrayString::new();
         self.write_reading(reading, &mut text);
-        put(out, start, text.as_bytes())
+        put(text.as_bytes(), out)
     }
 
-    // Makes the calls of the trace and writes the lines about them. Answers the place behind the text.
+    // Makes the calls of the trace and writes the lines about them. Answers how many octets it wrote.
     fn put_lines(&mut self, trace: &[u8], out: &mut [u8]) -> usize
         requires { 96 * length (lines_of trace.now) ≤ length out.old }
         ensures wrote { Wrote out.old 0 (told_on (state self.old) (readings trace.now)) out.new result }
@@ -105,38 +105,38 @@ impl Lister {
         let mut rest = trace;
         let mut end = 0;
         while let Some((line, left)) = split_once(rest, b'\n') {
-            end = self.put_line(at, line, out, end);
+            end += self.put_line(at, line, &mut out[end..]);
             at = next_at(at);
             rest = left;
         }
         if rest.is_empty() {
             return end;
         }
-        self.put_line(at, rest, out, end)
+        end + self.put_line(at, rest, &mut out[end..])
     }
 
-    // Writes the closing line of the session, if it is open. Answers the place behind the text.
+    // Writes the closing line of the session, if it is open. Answers how many octets it wrote.
     #[tactic(auto, using(crate::proofs::Rows::wrote_closed))]
-    fn put_closing(&self, session: u32, out: &mut [u8], start: usize) -> usize
-        requires { start + 96 ≤ length out.old }
-        ensures wrote { Wrote out.old start (closing_line (closing_at (state self.now).meaning session)) out.new result }
-        ensures short { result ≤ start + 96 }
+    fn put_closing(&self, session: u32, out: &mut [u8]) -> usize
+        requires { 96 ≤ length out.old }
+        ensures wrote { Wrote out.old 0 (closing_line (closing_at (state self.now).meaning session)) out.new result }
+        ensures short { result ≤ 96 }
     {
         match self.closing_line(session) {
-            Some(text) => put(out, start, text.as_bytes()),
-            None => start,
+            Some(text) => put(text.as_bytes(), out),
+            None => 0,
         }
     }
 
-    // Writes the closing lines of the open sessions. Answers the place behind the text.
-    fn put_closings(&self, out: &mut [u8], start: usize) -> usize
-        requires { start + 6144 ≤ length out.old }
-        ensures wrote { Wrote out.old start (closings_below 64 (state self.now).meaning) out.new result }
-        ensures short { result ≤ start + 6144 }
+    // Writes the closing lines of the open sessions. Answers how many octets it wrote.
+    fn put_closings(&self, out: &mut [u8]) -> usize
+        requires { 6144 ≤ length out.old }
+        ensures wrote { Wrote out.old 0 (closings_below 64 (state self.now).meaning) out.new result }
+        ensures short { result ≤ 6144 }
     {
-        let mut end = start;
+        let mut end = 0;
         for session in 0..64u32 {
-            end = self.put_closing(session, out, end);
+            end += self.put_closing(session, &mut out[end..]);
         }
         end
     }
@@ -150,7 +150,7 @@ fn list_all(trace: &[u8], out: &mut [u8]) -> usize
 {
     let mut lister = Lister::new();
     let end = lister.put_lines(trace, out);
-    lister.put_closings(out, end)
+    end + lister.put_closings(&mut out[end..])
 }
 
 // Runs the trace on a new self-clocked line over the heap and writes its listing to the front of the buffer. Answers the listing's length,

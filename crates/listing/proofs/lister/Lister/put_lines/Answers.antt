@@ -1,6 +1,7 @@
-use Rattle.std.proofs.Common.{[], refl, arith}
+use Rattle.std.proofs.Common.{◌+◌, [], refl, arith}
 use Rattle.self_clocked.specs.States.{state}
 use Rattle.trace.specs.Streams.{lines_of, next_at}
+use Rattle.listing.proofs.Writing.{with_part}
 use Rattle.listing.proofs.Rows.{Listed, lines_more, lines_none, lines_one, listed_none, listed_room, listed_more, listed_all, called_all}
 use Rattle.listing.proofs.lister.Lister.put_lines.Goals as goal
 
@@ -58,14 +59,15 @@ returns c =
     let rest = c.loop-line.rest.now in
     let trace = c.args.trace.now in
     let before = c.args.out.now in
-    let out = c.put_line.new.out in
+    let out = with_part c.loop-line.end c.loop-line.out c.put_line.new.out in
+    let end = c.loop-line.end + c.put_line.result in
     let next = next_at c.loop-line.at in
-    let done : Listed x trace before z next [] out c.put_line.result =
+    let done : Listed x trace before z next [] out end =
     listed_more x trace before y c.loop-line.at rest c.loop-line.out c.loop-line.end c.loop-line.invariant rest []
-    (lines_one rest c.in_default.ensures.parts c.if-is_empty.ensures) z out c.put_line.result c.put_line.ensures.wrote
+    (lines_one rest c.in_default.ensures.parts c.if-is_empty.ensures) z c.put_line.new.out c.put_line.result c.put_line.ensures.wrote
     c.put_line.ensures.short c.put_line.ensures.after c.requires [] next refl refl in
     record {
-      wrote = listed_all x trace before z next [] out c.put_line.result done refl;
+      wrote = listed_all x trace before z next [] out end done refl;
       short = omega (arith, done.few);
-      after = called_all x trace before z next [] out c.put_line.result done refl;
+      after = called_all x trace before z next [] out end done refl;
     }
