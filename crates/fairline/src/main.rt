@@ -2,6 +2,7 @@
 #![tactic(auto)]
 
 use arrayvec::ArrayString;
+use calls::session::SESSIONS;
 use listing::lister::Lister;
 use std::io;
 use std::io::{BufWriter, Read, Write};
@@ -32,7 +33,7 @@ fn print_chunk(
 
 // Prints the closing lines of the open sessions.
 fn print_closings(out: &mut impl Write, lister: &Lister) -> io::Result<()> {
-    for session in 0..64 {
+    for session in 0..SESSIONS as u32 {
         if let Some(line) = lister.closing_line(session) {
             out.write_all(line.as_bytes())?;
         }

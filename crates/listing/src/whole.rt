@@ -12,6 +12,7 @@ ghost use Rattle.listing.specs.Tellings.{Tells};
 use crate::lister::Lister;
 use arrayvec::ArrayString;
 use calls::refusal::Refusal;
+use calls::session::SESSIONS;
 use trace::cut::split_once;
 use trace::line::read_line;
 use trace::reading::Reading;
@@ -135,7 +136,7 @@ impl Lister {
         ensures short { result ≤ 6144 }
     {
         let mut end = 0;
-        for session in 0..64u32 {
+        for session in 0..SESSIONS as u32 {
             end += self.put_closing(session, &mut out[end..]);
         }
         end

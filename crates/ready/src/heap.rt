@@ -10,14 +10,14 @@ use crate::line::{ReadyLine, check_free};
 use crate::moves::{move_down, move_up};
 use arrayvec::ArrayVec;
 use calls::refusal::Refusal;
-use calls::session::place_of;
+use calls::session::{SESSIONS, place_of};
 use std::marker::Model;
 
 // The entries lie in heap order. For each session `present` says whether it has one.
 #[derive(Drop)]
 pub struct Heap {
-    entries: ArrayVec<Entry, 64>,
-    present: [bool; 64],
+    entries: ArrayVec<Entry, SESSIONS>,
+    present: [bool; SESSIONS],
 }
 
 impl Model for Heap {
@@ -46,15 +46,15 @@ impl Heap {
 }
 
 // The table in which no session has an entry.
-fn none_present() -> [bool; 64]
+fn none_present() -> [bool; SESSIONS]
     ensures { result ≡ replicate 64 false }
 {
-    [false; 64]
+    [false; SESSIONS]
 }
 
 // Puts an entry into a heap.
 #[tactic(auto, using(crate::proofs::Steps::refill_same))]
-fn put(entries: &mut ArrayVec<Entry, 64>, entry: Entry)
+fn put(entries: &mut ArrayVec<Entry, SESSIONS>, entry: Entry)
     requires room { array_vec_len entries.old < 64 }
     requires ordered { HeapOrdered 1 (array_vec_len entries.old) entries.old.items }
     ensures len { array_vec_len entries.new ≡ length (entries.old.items ++ entry ∷ []) }

@@ -8,6 +8,7 @@ ghost use Rattle.ready.specs.Entries.{EachOnce, Rising};
 use crate::entry::Entry;
 use crate::line::ReadyLine;
 use arrayvec::ArrayVec;
+use calls::session::SESSIONS;
 
 // The entry that is at most every entry of the line.
 #[tactic(auto, using(crate::specs::Leasts::is_least_from))]
@@ -19,7 +20,7 @@ pub fn first_in_order<R: ReadyLine>(line: &R) -> Option<Entry>
 
 // Empties the line, and answers its entries in order.
 #[tactic(auto, using(crate::proofs::Drops::taken_none, crate::proofs::Drops::taken_room, crate::proofs::Drops::taken_fewer, crate::proofs::Drops::taken_more, crate::proofs::Drops::left_empty, crate::proofs::Drops::left_all, crate::proofs::Drops::left_count))]
-pub fn drop_all<R: ReadyLine>(line: &mut R) -> ArrayVec<Entry, 64>
+pub fn drop_all<R: ReadyLine>(line: &mut R) -> ArrayVec<Entry, SESSIONS>
     ensures count { array_vec_len result ≡ entry_count (R.ReadyLine.tags line.old) }
     ensures rising { Rising result.items }
     ensures all { EachOnce result.items (R.ReadyLine.tags line.old) }

@@ -6,13 +6,13 @@ ghost use Rattle.ready.specs.Tags.{earlier, entry_of, entry_count, no_entries};
 use crate::entry::{Entry, at_most};
 use crate::line::{ReadyLine, check_free};
 use calls::refusal::Refusal;
-use calls::session::place_of;
+use calls::session::{SESSIONS, place_of};
 use std::marker::Model;
 
 // The table: for each session in turn the tag of its entry, if it has one.
 #[derive(Drop)]
 pub struct Scan {
-    tags: [Option<u64>; 64],
+    tags: [Option<u64>; SESSIONS],
     ghost sessions: { length tags ≡ 64 },
 }
 
@@ -29,7 +29,9 @@ impl Scan {
     pub fn new() -> Scan
         ensures { result.tags ≡ no_entries }
     {
-        Scan { tags: [None; 64] }
+        Scan {
+            tags: [None; SESSIONS],
+        }
     }
 }
 
@@ -54,7 +56,7 @@ fn earlier(first: Option<Entry>, second: Option<Entry>) -> Option<Entry>
 fn least_of(tags: &[Option<u64>]) -> Option<Entry>
     ensures { result ≡ fold (λ best p. earlier best (entry_of p.0 p.1)) None (zip (range_with_len 0 64) tags.now) }
 {
-    (0..64).zip(tags).fold(
+    (0..SESSIONS as u32).zip(tags).fold(
         None,
         |best, (session, tag)| earlier(best, entry_of(session, *tag)),
     )
@@ -93,7 +95,7 @@ impl ReadyLine for Scan {
     }
 
     fn clear(&mut self) {
-        self.tags = [None; 64];
+        self.tags = [None; SESSIONS];
     }
 
     fn count(&self) -> u32 {

@@ -14,7 +14,7 @@ pub mod preview;
 pub struct SelfClocked<R: Drop> {
     sessions: Sessions,
     clock: u64,
-    lasts: [u64; SESSIONS as usize],
+    lasts: [u64; SESSIONS],
     ready: R,
     ghost marks: { length lasts ≡ 64 },
 }

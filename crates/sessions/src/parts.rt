@@ -18,7 +18,7 @@ use waiting::table::Waiting;
 
 #[derive(Clone, Copy)]
 pub(crate) struct Parts {
-    pub(crate) seats: [Option<Account>; SESSIONS as usize],
+    pub(crate) seats: [Option<Account>; SESSIONS],
     pub(crate) waiting: Waiting,
     pub(crate) condition: Condition,
 }
@@ -29,7 +29,7 @@ impl Parts {
         ensures { Fresh result }
     {
         Parts {
-            seats: [None; SESSIONS as usize],
+            seats: [None; SESSIONS],
             waiting: Waiting::new(),
             condition: Condition::Idle,
         }

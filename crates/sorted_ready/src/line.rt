@@ -5,7 +5,7 @@ ghost use Rattle.ready.specs.Tags.{no_entries};
 use crate::order::insert;
 use arrayvec::ArrayVec;
 use calls::refusal::Refusal;
-use calls::session::place_of;
+use calls::session::{SESSIONS, place_of};
 use ready::entry::Entry;
 use ready::line::{ReadyLine, check_free};
 use std::marker::Model;
@@ -13,8 +13,8 @@ use std::marker::Model;
 // The tag of each session that has an entry, and the same entries once more, the least last.
 #[derive(Drop)]
 pub struct SortedLine {
-    tags: [Option<u64>; 64],
-    entries: ArrayVec<Entry, 64>,
+    tags: [Option<u64>; SESSIONS],
+    entries: ArrayVec<Entry, SESSIONS>,
     ghost sessions: { length tags ≡ 64 },
 }
 
@@ -36,7 +36,7 @@ impl SortedLine {
         ensures { result.tags ≡ no_entries }
     {
         SortedLine {
-            tags: [None; 64],
+            tags: [None; SESSIONS],
             entries: ArrayVec::new(),
         }
     }

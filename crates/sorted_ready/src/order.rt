@@ -7,6 +7,7 @@ ghost use Rattle.ready.specs.Entries.{entry_at};
 ghost use Rattle.sorted_ready.specs.Falling.{Falling};
 
 use arrayvec::ArrayVec;
+use calls::session::SESSIONS;
 use ready::entry::{Entry, at_most};
 
 // Whether the first comes after the second.
@@ -17,7 +18,7 @@ fn is_after(first: Entry, second: Entry) -> bool
 }
 
 // The place of the first entry that is at most the new one: there the new one belongs.
-fn place_among(entries: &ArrayVec<Entry, 64>, new: Entry) -> usize
+fn place_among(entries: &ArrayVec<Entry, SESSIONS>, new: Entry) -> usize
     requires { Falling entries.now.items }
     ensures within { result ≤ array_vec_len entries.now }
     ensures before { (k : ℕ) → k < result → Before new (entry_at entries.now.items k) }
@@ -28,7 +29,7 @@ fn place_among(entries: &ArrayVec<Entry, 64>, new: Entry) -> usize
 
 // Puts the new entry in where it belongs.
 #[tactic(auto, using(crate::proofs::Inserts::grown_by, crate::proofs::Inserts::inserted_falling))]
-pub(crate) fn insert(entries: &mut ArrayVec<Entry, 64>, new: Entry)
+pub(crate) fn insert(entries: &mut ArrayVec<Entry, SESSIONS>, new: Entry)
     requires room { array_vec_len entries.old < 64 }
     requires falling { Falling entries.old.items }
     ensures len { array_vec_len entries.new ≡ length (entries.old.items ++ new ∷ []) }

@@ -11,7 +11,7 @@ use calls::session::SESSIONS;
 #[derive(Clone, Copy)]
 pub(crate) struct Chains {
     pub(crate) places: [Place; PLACES as usize],
-    pub(crate) queues: [Queue; SESSIONS as usize],
+    pub(crate) queues: [Queue; SESSIONS],
     pub(crate) free: u32,
     pub(crate) used: u32,
 }
@@ -28,7 +28,7 @@ impl Chains {
         }
         Chains {
             places,
-            queues: [Queue::EMPTY; SESSIONS as usize],
+            queues: [Queue::EMPTY; SESSIONS],
             free: 0,
             used: 0,
         }

@@ -49,7 +49,7 @@ impl<R: ReadyLine + Drop> SelfClocked<R> {
         SelfClocked {
             sessions: Sessions::new(),
             clock: 0,
-            lasts: [0; SESSIONS as usize],
+            lasts: [0; SESSIONS],
             ready: cleared(ready),
         }
     }
@@ -110,7 +110,7 @@ impl<R: ReadyLine + Drop> SelfClocked<R> {
     {
         if self.sessions.total() == 0 {
             self.clock = 0;
-            self.lasts = [0; SESSIONS as usize];
+            self.lasts = [0; SESSIONS];
         }
     }
 }

@@ -43,7 +43,7 @@ fn ready_firsts(sessions: &Sessions) -> Heap
     ensures { result.tags ≡ first_marks (meaning_of sessions.now) }
 {
     let mut ready = Heap::new();
-    for session in 0..SESSIONS {
+    for session in 0..SESSIONS as u32 {
         let _ = renew(&mut ready, sessions.first(session), session);
     }
     ready
@@ -78,7 +78,7 @@ impl<R: ReadyLine + Drop> SelfClocked<R> {
         SelfClocked {
             sessions: self.sessions,
             clock: 0,
-            lasts: [0; SESSIONS as usize],
+            lasts: [0; SESSIONS],
             ready: ready_firsts(&self.sessions),
         }
     }
