@@ -80,12 +80,11 @@ fn side_by_side(out: &mut impl Write, inner: CapNumber, outer: CapNumber) -> io:
     let mut by_scan = SelfClocked::new(Scan::new());
     let mut first_come = FirstCome::new();
     let mut capped = Cap::over(Cap::over(SelfClocked::new(Heap::new()), inner), outer);
-    for (i, call) in script().iter().enumerate() {
-        let at = i as u32 + 1;
-        print_answer(out, "heap       ", at, *call, apply(&mut by_heap, *call))?;
-        print_answer(out, "scan       ", at, *call, apply(&mut by_scan, *call))?;
-        print_answer(out, "first come ", at, *call, apply(&mut first_come, *call))?;
-        print_answer(out, "capped     ", at, *call, apply(&mut capped, *call))?;
+    for (at, call) in (1u32..).zip(script()) {
+        print_answer(out, "heap       ", at, call, apply(&mut by_heap, call))?;
+        print_answer(out, "scan       ", at, call, apply(&mut by_scan, call))?;
+        print_answer(out, "first come ", at, call, apply(&mut first_come, call))?;
+        print_answer(out, "capped     ", at, call, apply(&mut capped, call))?;
     }
     Ok(())
 }

@@ -45,12 +45,10 @@ fn fill<D: Discipline>(line: &mut D, load: Load) -> Result<(), Refusal> {
 // What was sent in all the turns.
 fn sent<D: Discipline>(line: &mut D, load: Load) -> Result<u64, Refusal> {
     fill(line, load)?;
-    let mut octets: u64 = 0;
-    for ticket in 0..load.turns {
+    (0..load.turns).try_fold(0, |octets: u64, ticket| {
         let service = turn(line, ticket)?;
-        octets = octets.saturating_add(u64::from(service.packet.length));
-    }
-    Ok(octets)
+        Ok(octets.saturating_add(u64::from(service.packet.length)))
+    })
 }
 
 fn number(word: Option<String>) -> anyhow::Result<u32> {
