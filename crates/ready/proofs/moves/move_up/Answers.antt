@@ -2,14 +2,8 @@ use Rattle.std.proofs.Common.{ℕ, ◌-◌, ◌/◌, length, sym, subst, arith}
 use Rattle.std.proofs.lemmas.List.Sorted.{IsPermutation-trans}
 use Rattle.ready.specs.Entries.{entry_at}
 use Rattle.ready.specs.Orders.{at_most_other}
-use Rattle.ready.specs.Places.{ExceptAbove, above_more, above_done}
+use Rattle.ready.specs.Places.{ExceptAbove, above_more}
 use Rattle.ready.proofs.moves.move_up.Goals as goal
-
-pub returns-then-at_most : goal.returns-then-at_most
-returns-then-at_most c = record {
-  same = c.loop-at.invariant.1;
-  ordered = above_done (entry_at c.loop-at.heap) (length c.loop-at.heap) c.loop-at.at (sym c.if-at_most.ensures) c.loop-at.invariant.2;
-}
 
 pub loop-at-preserved : goal.loop-at-preserved
 loop-at-preserved c =
