@@ -4,8 +4,11 @@ ghost use Rattle.calls.specs.Strides.{charge, stride, stride_answer, ProductOfWe
 
 use crate::refusal::{Refusal, check_within};
 
+// The largest weight that a session has. The smallest is 1.
+pub const LARGEST_WEIGHT: u32 = 16;
+
 // 720,720 divided by the weights 1 to 16.
-const STRIDES: [u32; 16] = [
+const STRIDES: [u32; LARGEST_WEIGHT as usize] = [
     720720, 360360, 240240, 180180, 144144, 120120, 102960, 90090, 80080, 72072, 65520, 60060,
     55440, 51480, 48048, 45045,
 ];
@@ -21,7 +24,7 @@ fn entry(weight: u32) -> u32
 pub fn stride(weight: u32) -> Result<u32, Refusal>
     ensures { result ≡ stride_answer weight }
 {
-    check_within(weight, 16, Refusal::BadWeight)?;
+    check_within(weight, LARGEST_WEIGHT, Refusal::BadWeight)?;
     Ok(entry(weight))
 }
 

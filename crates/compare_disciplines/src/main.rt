@@ -2,7 +2,6 @@
 // first come, and self-clocked under two caps. Then it fills a line, and lets a session come back after a pause.
 #![tactic(auto)]
 
-use arrayvec::ArrayString;
 use calls::call::{Answer, Call};
 use calls::refusal::Refusal;
 use discipline::cap::{Cap, CapNumber};
@@ -15,6 +14,7 @@ use self_clocked::line::SelfClocked;
 use std::io;
 use std::io::{BufWriter, Write};
 use trace::listing::write_answer;
+use trace::text::Line;
 
 // Prints what one line answers, with the name of the line before it.
 fn print_answer(
@@ -24,7 +24,7 @@ fn print_answer(
     call: Call,
     answer: Answer,
 ) -> io::Result<()> {
-    let mut line = ArrayString::new();
+    let mut line = Line::new();
     write_answer(at, call, answer, &mut line);
     write!(out, "{name}{line}")
 }

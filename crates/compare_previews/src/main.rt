@@ -2,7 +2,6 @@
 // sessions, over the heap and over the scan.
 #![tactic(auto)]
 
-use arrayvec::ArrayString;
 use calls::call::{Answer, Call};
 use discipline::run::apply;
 use ready::heap::Heap;
@@ -12,10 +11,11 @@ use self_clocked::line::SelfClocked;
 use std::io;
 use std::io::{BufWriter, Write};
 use trace::listing::write_answer;
+use trace::text::Line;
 
 // Prints what was answered to the start with this number.
 fn print_answer(out: &mut impl Write, name: &str, at: u32, answer: Answer) -> io::Result<()> {
-    let mut line = ArrayString::new();
+    let mut line = Line::new();
     write_answer(at, Call::Start, answer, &mut line);
     write!(out, "{name}{line}")
 }

@@ -8,7 +8,7 @@ use ready::entry::Entry;
 use ready::heap::Heap;
 use ready::line::ReadyLine;
 use ready::scan::Scan;
-use std::io;
+use std::{fmt, io};
 use waiting::table::Waiting;
 
 #[derive(Clone, Copy, Debug)]
@@ -23,9 +23,21 @@ enum Step {
 #[derive(Clone, Copy, Debug)]
 enum Outcome {
     Done,
-    Refused(Refusal),
     Found(Option<Entry>),
     Counted(u32),
+}
+
+// What a step comes to, as it is printed.
+#[derive(Clone, Copy)]
+struct Shown(Result<Outcome, Refusal>);
+
+impl fmt::Display for Shown {
+    fn fmt<W: fmt::Write>(&self, f: &mut fmt::Formatter<W>) -> fmt::Result {
+        match self.0 {
+            Ok(outcome) => write!(f, "{outcome:?}"),
+            Err(refusal) => write!(f, "Refused({refusal:?})"),
+        }
+    }
 }
 
 const STEPS: [Step; 26] = [
@@ -57,18 +69,18 @@ const STEPS: [Step; 26] = [
     Step::DropLeast,
 ];
 
-fn apply<R: ReadyLine>(line: &mut R, step: Step) -> Outcome {
+fn apply<R: ReadyLine>(line: &mut R, step: Step) -> Result<Outcome, Refusal> {
     match step {
-        Step::Add(tag, session) => match line.add(tag, session) {
-            Ok(()) => Outcome::Done,
-            Err(refusal) => Outcome::Refused(refusal),
-        },
-        Step::Least => Outcome::Found(line.least()),
-        Step::DropLeast => Outcome::Found(line.drop_least()),
-        Step::Count => Outcome::Counted(line.count()),
+        Step::Add(tag, session) => {
+            line.add(tag, session)?;
+            Ok(Outcome::Done)
+        }
+        Step::Least => Ok(Outcome::Found(line.least())),
+        Step::DropLeast => Ok(Outcome::Found(line.drop_least())),
+        Step::Count => Ok(Outcome::Counted(line.count())),
         Step::Clear => {
             line.clear();
-            Outcome::Done
+            Ok(Outcome::Done)
         }
     }
 }
@@ -77,9 +89,9 @@ fn compare(rt: &HostRuntime) -> io::Result<()> {
     let mut heap = Heap::new();
     let mut scan = Scan::new();
     for step in STEPS {
-        let by_heap = apply(&mut heap, step);
-        let by_scan = apply(&mut scan, step);
-        println!(rt; "{step:?}: heap {by_heap:?}, scan {by_scan:?}")?;
+        let by_heap = Shown(apply(&mut heap, step));
+        let by_scan = Shown(apply(&mut scan, step));
+        println!(rt; "{step:?}: heap {by_heap}, scan {by_scan}")?;
     }
     Ok(())
 }

@@ -8,7 +8,7 @@ ghost use Rattle.sharing.specs.Meanings.{Meaning, Session, General, nothing_open
 ghost use Rattle.sharing.specs.Clocked.{Clocked, New, ClockedStep};
 ghost use Rattle.discipline.specs.Answers.{opened, entered, started, finished};
 
-use calls::call::{Packet, Service, Terms};
+use calls::call::{Service, Terms};
 use calls::refusal::Refusal;
 
 pub trait Discipline {

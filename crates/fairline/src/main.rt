@@ -1,17 +1,17 @@
 // fairline: reads a trace from standard input, runs it on a new self-clocked line over the heap, and prints the listing.
 #![tactic(auto)]
 
-use arrayvec::ArrayString;
 use calls::session::SESSIONS;
 use listing::lister::Lister;
 use std::io;
 use std::io::{BufWriter, Read, Write};
 use trace::reading::Reading;
 use trace::stream::LineReader;
+use trace::text::Line;
 
 // Prints the line about one line of the trace.
 fn print_reading(out: &mut impl Write, lister: &mut Lister, reading: Reading) -> io::Result<()> {
-    let mut line = ArrayString::new();
+    let mut line = Line::new();
     lister.write_reading(reading, &mut line);
     out.write_all(line.as_bytes())
 }

@@ -10,22 +10,19 @@ ghost use Rattle.listing.specs.Listings.{ends_in, said_of, after_line, calls_of,
 ghost use Rattle.listing.specs.Tellings.{Tells};
 
 use crate::lister::Lister;
-use arrayvec::ArrayString;
 use calls::refusal::Refusal;
 use calls::session::SESSIONS;
 use trace::cut::split_once;
 use trace::line::read_line;
 use trace::reading::Reading;
 use trace::stream::steps::next_at;
+use trace::text::{LINE_ROOM, Line};
 
 // The most octets that a trace may have.
 pub const LONGEST_TRACE: usize = 65536;
 
-// What is enough for one line of a listing.
-pub const LINE_ROOM: usize = 96;
-
 // What is enough for the closing lines of 64 sessions.
-pub const CLOSING_ROOM: usize = 6144;
+pub const CLOSING_ROOM: usize = LINE_ROOM * SESSIONS;
 
 // How many octets 10 the trace has.
 fn count_ends(trace: &[u8]) -> u32
@@ -90,7 +87,7 @@ impl Lister {
             at,
             line: read_line(line),
         };
-        let mut text = ArrayString::new();
+        let mut text = Line::new();
         self.write_reading(reading, &mut text);
         put(text.as_bytes(), out)
     }

@@ -1,8 +1,10 @@
 -- The texts of calls, and of the lines of a listing.
 use Rattle.std.specs.Prelude.{ℕ, List, [], ◌∷◌, ◌++◌, codes, decimal, Ok, Err}
 use Rattle.calls.specs.declared.call.Call.{Call}
+use Rattle.calls.specs.declared.call.Service.{Service}
 use Rattle.calls.specs.declared.call.Call.TheVariants.{Open, Enter, Start, Finish}
 use Rattle.calls.specs.Refusals.{refusal_number}
+use Rattle.calls.specs.declared.refusal.Refusal.{Refusal}
 use Rattle.calls.specs.Answers.{Answer}
 use Rattle.calls.specs.declared.call.Reply.TheVariants.{Opened, Entered, Started, Finished}
 use Rattle.trace.specs.declared.fault.LineFault.{LineFault}
@@ -53,18 +55,30 @@ session_of (Enter s len t) = s
 session_of Start = 0
 session_of Finish = 0
 
+-- a packet was started: it is in service
+abbrev pub started_text : ℕ → Service → List ℕ
+started_text at service =
+    numbered_line at ++ (codes " said=started session=" ++ decimal service.session) ++ (codes " ticket=" ++ decimal service.packet.ticket) ++
+    (codes " mark=" ++ decimal service.packet.mark) ++ codes "\n"
+
+-- a packet was finished: it has left
+abbrev pub finished_text : ℕ → Service → List ℕ
+finished_text at service =
+    numbered_line at ++ (codes " said=finished session=" ++ decimal service.session) ++ (codes " ticket=" ++ decimal service.packet.ticket) ++
+    (codes " length=" ++ decimal service.packet.length) ++ codes "\n"
+
+-- the call was refused
+abbrev pub refused_text : ℕ → Refusal → List ℕ
+refused_text at reason = numbered_line at ++ (codes " said=refused number=" ++ decimal (refusal_number reason)) ++ codes "\n"
+
 -- what was said to the call of this line
 abbrev pub answer_text : ℕ → Call → Answer → List ℕ
 answer_text at call (Ok Opened) = numbered_line at ++ (codes " said=opened session=" ++ decimal (session_of call)) ++ codes "\n"
 answer_text at call (Ok (Entered mark)) =
     numbered_line at ++ (codes " said=entered session=" ++ decimal (session_of call)) ++ (codes " mark=" ++ decimal mark) ++ codes "\n"
-answer_text at call (Ok (Started service)) =
-    numbered_line at ++ (codes " said=started session=" ++ decimal service.session) ++ (codes " ticket=" ++ decimal service.packet.ticket) ++
-    (codes " mark=" ++ decimal service.packet.mark) ++ codes "\n"
-answer_text at call (Ok (Finished service)) =
-    numbered_line at ++ (codes " said=finished session=" ++ decimal service.session) ++ (codes " ticket=" ++ decimal service.packet.ticket) ++
-    (codes " length=" ++ decimal service.packet.length) ++ codes "\n"
-answer_text at call (Err reason) = numbered_line at ++ (codes " said=refused number=" ++ decimal (refusal_number reason)) ++ codes "\n"
+answer_text at call (Ok (Started service)) = started_text at service
+answer_text at call (Ok (Finished service)) = finished_text at service
+answer_text at call (Err reason) = refused_text at reason
 
 -- the line of an open session at the end
 abbrev pub closing_text : ℕ → ℕ → ℕ → ℕ → List ℕ

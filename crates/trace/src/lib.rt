@@ -10,4 +10,4 @@ pub mod listing;
 pub mod number;
 pub mod reading;
 pub mod stream;
-mod text;
+pub mod text;

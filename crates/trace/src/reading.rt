@@ -4,9 +4,12 @@ ghost use Rattle.calls.specs.declared.call.Call.TheVariants.{Open, Enter};
 ghost use Rattle.trace.specs.Texts.{call_text, fault_text};
 
 use crate::fault::LineFault;
-use crate::text::{begin_line, push_field};
+use crate::text::{Line, begin_line, push_field};
 use arrayvec::ArrayString;
 use calls::call::Call;
+
+// A call as a line of a trace, without octet 10.
+pub type CallLine = ArrayString<63>;
 
 // The number of a line, counted from 1, and the call that it writes or its fault.
 #[derive(Clone, Copy, PartialEq, Eq, Debug)]
@@ -15,37 +18,37 @@ pub struct Reading {
     pub line: Result<Call, LineFault>,
 }
 
-fn open_line(session: u32, weight: u32, limit: u32) -> ArrayString<63>
+fn open_line(session: u32, weight: u32, limit: u32) -> CallLine
     ensures { result.bytes ≡ call_text (Open session weight limit) }
 {
-    let mut line = ArrayString::new();
+    let mut line = CallLine::new();
     push_field(&mut line, "do=open session=", session);
     push_field(&mut line, " weight=", weight);
     push_field(&mut line, " limit=", limit);
     line
 }
 
-fn enter_line(session: u32, length: u32, ticket: u32) -> ArrayString<63>
+fn enter_line(session: u32, length: u32, ticket: u32) -> CallLine
     ensures { result.bytes ≡ call_text (Enter session length ticket) }
 {
-    let mut line = ArrayString::new();
+    let mut line = CallLine::new();
     push_field(&mut line, "do=enter session=", session);
     push_field(&mut line, " length=", length);
     push_field(&mut line, " ticket=", ticket);
     line
 }
 
-fn word_line(word: &str) -> ArrayString<63>
+fn word_line(word: &str) -> CallLine
     requires { length word.now ≤ 63 }
     ensures { result.bytes ≡ word.now }
 {
-    let mut line = ArrayString::new();
+    let mut line = CallLine::new();
     line.push_str(word);
     line
 }
 
 // The call as a line of a trace, without octet 10.
-pub fn call_line(call: Call) -> ArrayString<63>
+pub fn call_line(call: Call) -> CallLine
     ensures { result.bytes ≡ call_text call }
 {
     match call {
@@ -65,7 +68,7 @@ pub fn call_line(call: Call) -> ArrayString<63>
 }
 
 // Writes the line about a faulty line, in place of what the text held.
-pub fn write_fault(at: u32, fault: LineFault, line: &mut ArrayString<96>)
+pub fn write_fault(at: u32, fault: LineFault, line: &mut Line)
     ensures { line.new.bytes ≡ fault_text at fault }
 {
     begin_line(line, at);

@@ -6,6 +6,12 @@ ghost use Rattle.trace.specs.Texts.{numbered_line};
 use arrayvec::ArrayString;
 use itoa::{Buffer, Integer};
 
+// What is enough for one line of a listing.
+pub const LINE_ROOM: usize = 96;
+
+// A line of a listing.
+pub type Line = ArrayString<LINE_ROOM>;
+
 // Puts a name, which ends in `=`, and behind it the number to the end of the line.
 #[inline]
 pub(crate) fn push_field<I: Integer, const N: usize>(
@@ -22,7 +28,7 @@ pub(crate) fn push_field<I: Integer, const N: usize>(
 }
 
 // Begins the line of a listing about the line of a trace with the number `at`.
-pub(crate) fn begin_line(line: &mut ArrayString<96>, at: u32)
+pub(crate) fn begin_line(line: &mut Line, at: u32)
     ensures octets { line.new.bytes ≡ numbered_line at }
     ensures short { array_string_len line.new ≤ 13 }
 {

@@ -11,7 +11,6 @@ ghost use Rattle.listing.specs.Listings.{reading_text, after_reading, closing_at
 ghost use Rattle.listing.specs.Tellings.{GoesOn};
 
 use crate::lister::Lister;
-use arrayvec::ArrayString;
 use calls::call::{Answer, Call};
 use discipline::discipline::Discipline;
 use discipline::run::apply;
@@ -19,6 +18,7 @@ use ready::heap::Heap;
 use self_clocked::line::SelfClocked;
 use trace::listing::{Closing, closing_line, write_answer};
 use trace::reading::{Reading, write_fault};
+use trace::text::Line;
 
 impl Lister {
     // With a new line.
@@ -40,7 +40,7 @@ impl Lister {
 
     // Makes the call that was read, if there is one, and writes the line about it, in place of what the text held.
     #[tactic(auto, using(crate::proofs::Tellings::goes_on))]
-    pub fn write_reading(&mut self, reading: Reading, line: &mut ArrayString<96>)
+    pub fn write_reading(&mut self, reading: Reading, line: &mut Line)
         ensures octets { line.new.bytes ≡ reading_text (state self.old) reading }
         ensures after { state self.new ≡ after_reading (state self.old) reading }
         ensures fair { (h : History) → Led New Exact h (state self.old) → GoesOn (state self.old) reading.line (state self.new) h }
@@ -67,7 +67,7 @@ impl Lister {
     }
 
     // The closing line of the session, if it is open.
-    pub fn closing_line(&self, session: u32) -> Option<ArrayString<96>>
+    pub fn closing_line(&self, session: u32) -> Option<Line>
         ensures { option_map (λ line. line.bytes) result ≡ option_map standing_text (closing_at (state self.now).meaning session) }
     {
         Some(closing_line(self.closing(session)?))

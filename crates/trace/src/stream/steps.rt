@@ -7,8 +7,7 @@ ghost use Rattle.trace.specs.Streams.{begin, kept, next_at, after_part, line_end
 use crate::cut::split_once;
 use crate::line::read_line;
 use crate::reading::Reading;
-use crate::stream::LineReader;
-use arrayvec::ArrayVec;
+use crate::stream::{Held, LineReader};
 
 // The number of the line behind the one with this number. It stays at the largest.
 pub fn next_at(at: u32) -> u32
@@ -19,7 +18,7 @@ pub fn next_at(at: u32) -> u32
 
 // Puts the part to the end, as much of it as there is room for.
 #[tactic(auto, using(crate::proofs::Streaming::held_more))]
-fn keep(held: &mut ArrayVec<u8, 81>, part: &[u8])
+fn keep(held: &mut Held, part: &[u8])
     ensures { held.new.items ≡ kept (held.old.items ++ part.now) }
 {
     let n = part.len().min(held.remaining_capacity());
@@ -32,7 +31,7 @@ impl LineReader {
     {
         LineReader {
             at: 1,
-            held: ArrayVec::new(),
+            held: Held::new(),
         }
     }
 
