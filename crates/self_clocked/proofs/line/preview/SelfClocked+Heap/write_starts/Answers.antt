@@ -24,9 +24,6 @@ inside c =
 few : (c : goal.In-Ok) → c.loop-service.count ≤ 256
 few c = omega (arith, c.loop-service.invariant.1.left, at_most_256 c.finish.new.self.sessions)
 
-pub offset_bounds-tickets-count : goal.offset_bounds-tickets-count
-offset_bounds-tickets-count c = record { fits = omega (arith, few c) }
-
 pub bounds-tickets-count : goal.bounds-tickets-count
 bounds-tickets-count c = inside c
 
