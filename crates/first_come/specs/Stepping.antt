@@ -2,7 +2,6 @@
 use Rattle.std.specs.Prelude.{◌≡◌, ℕ, zero, suc, ◌+◌, ◌%◌, ◌<◌, Bool, true, false, cond, List, [], ◌∷◌, ◌++◌, length, Some, None, Ok, Err, count_by, Result, ◌≢◌, nat_eq, nat_le, nat_lt, slice_index, refl}
 use Rattle.std.proofs.Math.Path.{sym, ap, subst}
 use Rattle.std.proofs.Common.{◌∙◌, add-one, arith}
-use Rattle.std.proofs.lemmas.List.{length-set}
 use Rattle.std.proofs.lemmas.Bool.{lt-ltb, le-leb, cond-true}
 use Rattle.calls.specs.declared.call.Packet.{Packet}
 use Rattle.calls.specs.declared.call.Service.{Service}
@@ -28,9 +27,9 @@ use Rattle.first_come.specs.States.{model_of}
 use Rattle.first_come.specs.Entries.{entries_append}
 use Rattle.first_come.specs.Listing.{enter_lists, start_lists, earliest_waits}
 
--- the ghost fields by their names
+-- the ghost field by its name
 abbrev pub Ghosts : Sessions → Ring → Type 0
-Ghosts sessions ring = record { places : length ring.numbers ≡ 256; head : ring.head < 256; listed : ArrivalsListed sessions ring }
+Ghosts sessions ring = record { listed : ArrivalsListed sessions ring }
 
 -- ---- new
 
@@ -43,8 +42,6 @@ module _ (sessions : Sessions) (ring : Ring) (empty : meaning_of sessions ≡ no
 
   pub fresh_keeps : Ghosts sessions ring
   fresh_keeps = record {
-    places = ap length new.numbers;
-    head = omega (arith, new.head);
     listed = λ s. ap (count_by (λ k. nat_eq k s)) no_arrivals ∙ sym (ap (λ m. length (waiting_in m s)) empty);
   }
 
@@ -59,8 +56,6 @@ module _ (x : FirstCome) (after : Sessions) (same : (k : ℕ) → waiting_in (me
 
   pub same_keeps : Ghosts after x.ring
   same_keeps = record {
-    places = x.places;
-    head = x.head;
     listed = λ s. ap (count_by (λ k. nat_eq k s)) same_arrivals ∙ x.listed s ∙ sym (ap length (same s));
   }
 
@@ -132,13 +127,11 @@ module _ (x : FirstCome) (s : ℕ) (packet : Packet) (after : Sessions) (count :
   more_arrivals =
       ap (λ r. entries_of r (all_waiting (meaning_of after))) is
       ∙ ap (entries_of (rings.appended x.ring count s)) one_more
-      ∙ entries_append x.ring.numbers s ((x.ring.head + count) % 256) x.places (all_waiting m) x.ring.head x.head can.room
+      ∙ entries_append x.ring.numbers s ((x.ring.head + count) % 256) x.ring.places (all_waiting m) x.ring.head x.ring.front can.room
       (ap (λ n. (x.ring.head + n) % 256) counted)
 
   pub append_keeps : Ghosts after ring
   append_keeps = record {
-    places = ap (λ r. length r.numbers) is ∙ length-set x.ring.numbers ((x.ring.head + count) % 256) s ∙ x.places;
-    head = subst (λ r. r.head < 256) (sym is) x.head;
     listed = λ k. ap (count_by (λ n. nat_eq n k)) more_arrivals
         ∙ enter_lists m (arrivals_in x.sessions x.ring) s packet can.is_open x.listed k
         ∙ sym (ap (λ z. length (waiting_in z k)) entered);
@@ -226,8 +219,6 @@ module _ (x : FirstCome) where
 
       pub start_keeps : Ghosts after ring
       start_keeps = record {
-        places = ap (λ z. length z.numbers) is ∙ x.places;
-        head = subst (λ z. z.head < 256) (sym is) (omega arith);
         listed = λ k. ap (count_by (λ n. nat_eq n k)) less_arrivals
             ∙ start_lists before earliest later waits.0 waits.0 waits.1 waits.2 lists k
             ∙ sym (ap (λ z. length (waiting_in z k)) started);

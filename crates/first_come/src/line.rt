@@ -1,5 +1,4 @@
 // A line of first come.
-ghost use Rattle.std.specs.Prelude.{◌≡◌, ◌<◌, length};
 ghost use Rattle.first_come.specs.Invariants.{ArrivalsListed};
 
 use crate::ring::Ring;
@@ -12,8 +11,6 @@ pub mod rule;
 pub struct FirstCome {
     sessions: Sessions,
     ring: Ring,
-    ghost places: { length ring.numbers ≡ 256 },
-    ghost head: { ring.head < 256 },
     // Each session stands in the ring once for each of its waiting packets.
     ghost listed: { ArrivalsListed sessions ring },
 }

@@ -1,6 +1,5 @@
 // Session numbers in order of arrival, in a ring of 256 places.
-ghost use Rattle.std.specs.Prelude.{◌≡◌, ◌<◌, ◌≤◌, length, slice_index};
-ghost use Rattle.first_come.specs.Rings.{Fresh, advanced, appended};
+ghost use Rattle.std.specs.Prelude.{◌≡◌, ◌<◌, length};
 
 use waiting::table::PLACES;
 
@@ -9,9 +8,14 @@ use waiting::table::PLACES;
 pub(crate) struct Ring {
     pub(crate) numbers: [u32; PLACES as usize],
     pub(crate) head: u32,
+    ghost places: { length numbers ≡ 256 },
+    ghost front: { head < 256 },
 }
 
 impl Ring {
+    ghost use Rattle.std.specs.Prelude.{◌≤◌, slice_index};
+    ghost use Rattle.first_come.specs.Rings.{Fresh, advanced, appended};
+
     pub(crate) fn new() -> Ring
         ensures { Fresh result }
     {
@@ -23,7 +27,6 @@ impl Ring {
 
     // The first entry.
     pub(crate) fn first(&self) -> u32
-        requires { self.now.head < length self.now.numbers }
         ensures { result ≡ slice_index self.now.numbers self.now.head }
     {
         self.numbers[self.head as usize]
@@ -31,7 +34,6 @@ impl Ring {
 
     // Leaves the first entry behind.
     pub(crate) fn advance(&mut self)
-        requires { self.old.head < 256 }
         ensures { self.new ≡ advanced self.old }
     {
         self.head = (self.head + 1) % PLACES;
@@ -39,9 +41,7 @@ impl Ring {
 
     // Writes the session behind the last of `count` entries.
     pub(crate) fn append(&mut self, count: u32, session: u32)
-        requires places { length self.old.numbers ≡ 256 }
-        requires head { self.old.head < 256 }
-        requires count { count ≤ 256 }
+        requires { count ≤ 256 }
         ensures { self.new ≡ appended self.old count session }
     {
         let place = (self.head + count) % PLACES;
