@@ -49,7 +49,7 @@ impl FirstCome {
     }
 
     // The packet waits as the last of its session, and is the latest arrival.
-    #[tactic(auto, using(crate::specs::Stepping::append_model))]
+    #[tactic(auto, using(crate::specs::Stepping::append_model, crate::specs::Stepping::append_keeps))]
     fn append(&mut self, session: u32, packet: Packet)
         requires { why_put (meaning_of self.old.sessions) session ≡ None }
         ensures { model_of self.new ≡ appended (model_of self.old) session packet }
