@@ -1,4 +1,4 @@
-// A ready line over a sorted array.
+// A ready line over a sorted vector.
 ghost use Rattle.std.specs.Prelude.{◌≡◌, length};
 ghost use Rattle.ready.specs.Tags.{no_entries};
 
