@@ -1,5 +1,5 @@
 -- What the changes make of the meaning.
-use Rattle.std.proofs.Common.{◌≡◌, ℕ, ◌<◌, Bool, true, false, cond, eqb, List, [], ◌∷◌, ◌++◌, length, set, is_some, Some, None, Option, sym, refl, ap, ◌∙◌, ⊎_elim, arith}
+use Rattle.std.proofs.Common.{◌≡◌, ℕ, ◌<◌, Bool, true, false, cond, eqb, List, [], ◌∷◌, ◌++◌, set, is_some, Some, None, Option, sym, refl, ap, ◌∙◌, ⊎_elim, arith}
 use Rattle.std.specs.Option.{option_map}
 use Rattle.std.proofs.lemmas.List.{get_or-set_same, get_or-set_other}
 use Rattle.std.proofs.lemmas.Bool.{cases_eq, eq-eqb, ne_eqb, cond-true, cond-false}
@@ -78,16 +78,23 @@ fresh_meaning p new =
       in_service = ap service_of new.condition i;
     }
 
+-- the same seats, queues and condition have one meaning
+pub same_meaning : (p q : Parts) → p.seats ≡ q.seats → p.waiting ≡ q.waiting → p.condition ≡ q.condition → meaning_in p ≡ meaning_in q
+same_meaning p q seats waiting condition = λ i. record {
+  session = λ s. session_of (seat_at (seats i) s) (queue (waiting i) s);
+  in_service = service_of (condition i);
+}
+
 -- one seat changes
-module _ (p : Parts) (s : ℕ) (seat : Option Account) (low : s < length p.seats) where
+module _ (p : Parts) (s : ℕ) (seat : Option Account) (low : s < 64) where
   changed_here : session_of (seat_at (set p.seats s seat) s) (queue p.waiting s) ≡ session_of seat (queue p.waiting s)
-  changed_here = ap (λ t. session_of t (queue p.waiting s)) (get_or-set_same p.seats s seat None low)
+  changed_here = ap (λ t. session_of t (queue p.waiting s)) (get_or-set_same p.seats s seat None (omega (arith, low, p.sessions)))
 
   changed_there : (k : ℕ) → (k ≡ s → ⊥) → session_of (seat_at (set p.seats s seat) k) (queue p.waiting k) ≡ (meaning_in p).session k
   changed_there k ne = ap (λ t. session_of t (queue p.waiting k)) (get_or-set_other p.seats s k seat None ne)
 
 pub open_meaning :
-    (p after : Parts) (s : ℕ) (terms : Terms) → s < length p.seats → is_some (seat_at p.seats s) ≡ false →
+    (p after : Parts) (s : ℕ) (terms : Terms) → s < 64 → is_some (seat_at p.seats s) ≡ false →
     waiting_while_closed (seat_at p.seats s) (queue p.waiting s) ≡ 0 → after ≡ with_seat p s (Some (new_account terms)) →
     meaning_in after ≡ after_open (meaning_in p) s terms.weight terms.limit
 open_meaning p after s terms low closed none is =
@@ -98,7 +105,7 @@ open_meaning p after s terms low closed none is =
     refl
 
 pub finish_meaning :
-    (p after : Parts) (service : Service) → service.session < length p.seats → p.condition ≡ Carrying service →
+    (p after : Parts) (service : Service) → service.session < 64 → p.condition ≡ Carrying service →
     after ≡ with_condition (with_seat p service.session (option_map (with_octets (charge service.packet.length)) (seat_at p.seats service.session)))
     (moved p.condition Finished (all_waiting p.waiting)) →
     meaning_in after ≡ after_finish (meaning_in p) service.session service.packet

@@ -1,6 +1,6 @@
 -- What the small changes keep of what always holds.
 use Rattle.std.proofs.Common.{◌≡◌, ℕ, zero, suc, ◌<◌, ◌≤◌, Bool, true, false, cond, not, ◌&&◌, eqb, ltb, List, [], ◌∷◌, ◌++◌, length, set, replicate, is_some, option_map, Some, None, Ok, Err, Option, sym, refl, ap, ◌∙◌, subst, ⊎_elim, arith}
-use Rattle.std.proofs.lemmas.List.{get_or-set_same, get_or-set_other, get_or_past, length-set}
+use Rattle.std.proofs.lemmas.List.{get_or-set_same, get_or-set_other, get_or_past}
 use Rattle.std.proofs.lemmas.Bool.{cases_eq, cases_lt, both_ways, not-true, lt-ltb, ltb-true, eqb-true, eq-eqb, ne_eqb, cond-true, cond-false, and_from}
 use Rattle.calls.specs.Strides.{within}
 use Rattle.calls.specs.declared.call.Packet.{Packet}
@@ -26,7 +26,6 @@ use Rattle.sessions.specs.Verdicts.{verdict, served}
 -- the ghost fields, one within the other
 abbrev pub Ghosts : Parts → Type 0
 Ghosts p = record {
-  seats : length p.seats ≡ 64;
   terms : TermsWithin p;
   closed : ClosedEmpty p;
   fits : ConditionFits p;
@@ -162,7 +161,6 @@ fresh_keeps p new =
     let closed : (s : ℕ) → seat_at p.seats s ≡ None = λ s. ap (λ seats. seat_at seats s) new.seats ∙ repeated 64 s in
     let none : all_waiting p.waiting ≡ 0 = ap total new.queues ∙ total_no_packets in
     record {
-      seats = ap length new.seats;
       terms = λ s. ap terms_within (closed s);
       closed = λ s. ap (λ seat. waiting_while_closed seat (queue p.waiting s)) (closed s) ∙ ap (λ q. length (q s)) new.queues;
       fits = ap (λ c. fits c (all_waiting p.waiting)) new.condition ∙ eq-eqb (all_waiting p.waiting) 0 none;
@@ -173,9 +171,8 @@ module _ (p : Parts) (g : Ghosts p) where
   -- an open seat in the place of another
   pub seat_keeps : (s : ℕ) (seat : Option Account) → s < 64 → is_some seat ≡ true → terms_within seat ≡ true → Ghosts (with_seat p s seat)
   seat_keeps s seat low opened within =
-      let there : s < length p.seats = omega (arith, g.seats) in
+      let there : s < length p.seats = omega (arith, p.sessions) in
       record {
-        seats = length-set p.seats s seat ∙ g.seats;
         terms = seat_set (λ k t. terms_within t ≡ true) p.seats s seat there within (λ k ne. g.terms k);
         closed =
             seat_set (λ k t. waiting_while_closed t (queue p.waiting k) ≡ 0) p.seats s seat there (open_empty seat _ opened)
@@ -190,7 +187,6 @@ module _ (p : Parts) (g : Ghosts p) where
       ((k : ℕ) → waiting_while_closed (seat_at p.seats k) (queue after.waiting k) ≡ 0) → ConditionFits after →
       serves_open after.condition p.seats ≡ true → Ghosts after
   queues_keep after seats closed fit serves = record {
-    seats = ap length seats ∙ g.seats;
     terms = λ k. ap (λ l. terms_within (seat_at l k)) seats ∙ g.terms k;
     closed = λ k. ap (λ l. waiting_while_closed (seat_at l k) (queue after.waiting k)) seats ∙ closed k;
     fits = fit;
@@ -239,8 +235,8 @@ module _ (p : Parts) (g : Ghosts p) where
   pub serves : (service : Service) → p.condition ≡ Carrying service → is_some (seat_at p.seats service.session) ≡ true
   serves service is = sym (ap (λ c. serves_open c p.seats) is) ∙ g.served
 
-  pub serves_below : (service : Service) → p.condition ≡ Carrying service → service.session < length p.seats
-  serves_below service is = open_below p.seats service.session (serves service is)
+  pub serves_below : (service : Service) → p.condition ≡ Carrying service → service.session < 64
+  serves_below service is = omega (arith, open_below p.seats service.session (serves service is), p.sessions)
 
   pub finish_keeps :
       (service : Service) (amount : ℕ) (after : Parts) → p.condition ≡ Carrying service →
@@ -250,13 +246,12 @@ module _ (p : Parts) (g : Ghosts p) where
       let s = service.session in
       let n = all_waiting p.waiting in
       let seat = seat_at p.seats s in
-      let h = seat_keeps s (option_map (with_octets amount) seat) (omega (arith, serves_below service carried, g.seats)) (credited_open amount seat (serves service carried))
+      let h = seat_keeps s (option_map (with_octets amount) seat) (serves_below service carried) (credited_open amount seat (serves service carried))
       (credited_within amount seat (g.terms s)) in
       let rests : moved p.condition Finished n ≡ resting n = ap (λ c. moved c Finished n) carried in
       let seats = set p.seats s (option_map (with_octets amount) seat) in
       subst Ghosts (sym is) (
       record {
-        seats = h.seats;
         terms = h.terms;
         closed = h.closed;
         fits = ap (λ c. fits c n) rests ∙ fits_resting n;
@@ -265,4 +260,4 @@ module _ (p : Parts) (g : Ghosts p) where
       )
 
 pub ghosts : (x : Sessions) → Ghosts x.parts
-ghosts x = record { seats = x.seats; terms = x.terms; closed = x.closed; fits = x.fits; served = x.served }
+ghosts x = record { terms = x.terms; closed = x.closed; fits = x.fits; served = x.served }

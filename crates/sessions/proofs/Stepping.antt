@@ -1,5 +1,5 @@
 -- What the calls answer and make of the meaning, from what their parts ensure.
-use Rattle.std.proofs.Common.{◌≡◌, ℕ, ◌<◌, true, cond, not, ltb, ◌∷◌, length, option_map, is_some as option_is_some, Some, None, Ok, Err, Option, Result, sym, refl, ap, ◌∙◌, subst, arith}
+use Rattle.std.proofs.Common.{◌≡◌, ℕ, ◌<◌, true, cond, not, ltb, ◌∷◌, length, set, option_map, is_some as option_is_some, Some, None, Ok, Err, Option, Result, sym, refl, ap, ◌∙◌, subst, arith}
 use Rattle.std.proofs.lemmas.Bool.{cond-true, cond-false, lt-ltb, le-ltb}
 use Rattle.calls.specs.Strides.{charge}
 use Rattle.calls.specs.declared.call.Packet.{Packet}
@@ -25,7 +25,7 @@ use Rattle.sessions.specs.Verdicts.{verdict, settled, why_open, why_put, taken, 
 use Rattle.sessions.proofs.Reading.{open_is_some, waiting_is_queue, all_waiting_is_total}
 use Rattle.sessions.proofs.Keeping.{Ghosts, ghosts, no_reason, the_reason, Openable, openable, seat_keeps, must_pause, carrying, serves_below, enter_keeps, start_keeps, finish_keeps}
 use Rattle.sessions.proofs.Using.{Puttable, put_parts}
-use Rattle.sessions.proofs.Changing.{open_meaning, enter_meaning, start_meaning, finish_meaning}
+use Rattle.sessions.proofs.Changing.{same_meaning, open_meaning, enter_meaning, start_meaning, finish_meaning}
 
 -- ---- refused or not
 
@@ -56,20 +56,22 @@ module _ (x : Sessions) (s weight limit : ℕ) where
         openable (option_is_some (seat_at x.parts.seats s)) s terms
         (no_reason (open_refusal (option_is_some (seat_at x.parts.seats s)) s weight limit) (tt {0}) (tt {0}) (ok ∙ sym open_verdict))
 
-    pub open_below : s < length x.parts.seats
-    open_below = omega (arith, can_open.session, x.seats)
+    pub open_below : s < 64
+    open_below = can_open.session
 
     pub open_keeps : (after : Parts) → after ≡ with_seat x.parts s (Some (new_account terms)) → Ghosts after
     open_keeps after is =
         subst Ghosts (sym is) (seat_keeps x.parts (ghosts x) s (Some (new_account terms)) can_open.session refl can_open.terms)
 
-    pub opened : (y : Sessions) → y.parts ≡ with_seat x.parts s (Some (new_account terms)) →
+    pub opened : (y : Sessions) → y.parts.seats ≡ set x.parts.seats s (Some (new_account terms)) → y.parts.waiting ≡ x.parts.waiting →
+        y.parts.condition ≡ x.parts.condition →
         meaning_of y ≡ settled (why_open (meaning_of x) s weight limit) (meaning_of x) (after_open (meaning_of x) s weight limit)
     unfolding meaning_of
-    opened y is =
+    opened y seats waiting condition =
         settles (why_open (meaning_of x) s weight limit) (tt {0}) (tt {0}) (meaning_of x)
         (after_open (meaning_of x) s weight limit) (meaning_of y) ok
-        (open_meaning x.parts y.parts s terms open_below can_open.closed (x.closed s) is)
+        (same_meaning y.parts (with_seat x.parts s (Some (new_account terms))) seats waiting condition
+        ∙ open_meaning x.parts (with_seat x.parts s (Some (new_account terms))) s terms open_below can_open.closed (x.closed s) refl)
 
 -- ---- put
 
@@ -172,7 +174,7 @@ module _ (x : Sessions) where
     carries : x.parts.condition ≡ Carrying service
     carries = carrying x.parts.condition service ok
 
-    pub finish_below : service.session < length x.parts.seats
+    pub finish_below : service.session < 64
     finish_below = serves_below x.parts (ghosts x) service carries
 
     module _ (after : Parts)
@@ -181,6 +183,12 @@ module _ (x : Sessions) where
       pub finished_keeps : Ghosts after
       finished_keeps = finish_keeps x.parts (ghosts x) service (charge service.packet.length) after carries is
 
-      pub finished : (y : Sessions) → y.parts ≡ after → meaning_of y ≡ after_finish (meaning_of x) service.session service.packet
-      unfolding meaning_of
-      finished y same = ap meaning_in same ∙ finish_meaning x.parts after service finish_below carries is
+    pub finished :
+        (y : Sessions) → y.parts.seats ≡ set x.parts.seats service.session (option_map (with_octets (charge service.packet.length)) (seat_at x.parts.seats service.session)) →
+        y.parts.waiting ≡ x.parts.waiting → y.parts.condition ≡ moved x.parts.condition Finished (queues.all_waiting x.parts.waiting) →
+        meaning_of y ≡ after_finish (meaning_of x) service.session service.packet
+    unfolding meaning_of
+    finished y seats waiting condition =
+        let after : Parts = with_condition (with_seat x.parts service.session (option_map (with_octets (charge service.packet.length)) (seat_at x.parts.seats service.session)))
+        (moved x.parts.condition Finished (queues.all_waiting x.parts.waiting)) in
+        same_meaning y.parts after seats waiting condition ∙ finish_meaning x.parts after service finish_below carries refl

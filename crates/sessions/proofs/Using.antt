@@ -73,7 +73,7 @@ module _ (x : Sessions) where
   open_in_order s t is =
       let seat = seat_at x.parts.seats s in
       let packets = queue x.parts.waiting s in
-      in_order seat packets s t (omega (arith, open_below x.parts.seats s (some_open seat packets t is), x.seats)) (x.terms s) is
+      in_order seat packets s t (omega (arith, open_below x.parts.seats s (some_open seat packets t is), x.parts.sessions)) (x.terms s) is
 
   -- a session with a waiting packet is open, and so below 64
   pub waits_below_64 : (s : ℕ) (first : Packet) (rest : List Packet) → waiting_in (meaning_of x) s ≡ first ∷ rest → s < 64
@@ -92,7 +92,7 @@ module _ (x : Sessions) where
   pub serves_below_64 : (service : Service) → (meaning_of x).in_service ≡ Some service → service.session < 64
   unfolding meaning_of
   serves_below_64 service is =
-      omega (arith, open_below x.parts.seats service.session (serves x.parts (ghosts x) service (carried x.parts.condition service is)), x.seats)
+      omega (arith, open_below x.parts.seats service.session (serves x.parts (ghosts x) service (carried x.parts.condition service is)), x.parts.sessions)
 
   -- where nothing waits, no session has a packet
   pub no_queue : all_waiting (meaning_of x) ≡ 0 → (s : ℕ) → waiting_in (meaning_of x) s ≡ []

@@ -1,5 +1,7 @@
 -- What the small changes make of the parts.
 use Rattle.std.specs.Prelude.{◌≡◌, ℕ, [], ◌∷◌, ◌++◌, replicate, None, Option, slice_set}
+use Rattle.std.proofs.Common.{◌∙◌}
+use Rattle.std.proofs.lemmas.List.{length-set}
 use Rattle.calls.specs.declared.call.Packet.{Packet}
 use Rattle.calls.specs.declared.call.Service.{Service}
 use Rattle.waiting.specs.Queues.{queue, no_packets, all_waiting, put, after_take}
@@ -16,10 +18,10 @@ pub record Fresh (p : Parts) : Type 0 where
   pub condition : p.condition ≡ Idle
 
 abbrev pub with_seat : Parts → ℕ → Option Account → Parts
-with_seat p s seat = record { seats = slice_set p.seats s seat; waiting = p.waiting; condition = p.condition }
+with_seat p s seat = record { seats = slice_set p.seats s seat; waiting = p.waiting; condition = p.condition; sessions = length-set p.seats s seat ∙ p.sessions }
 
 abbrev pub with_condition : Parts → Condition → Parts
-with_condition p condition = record { seats = p.seats; waiting = p.waiting; condition = condition }
+with_condition p condition = record { seats = p.seats; waiting = p.waiting; condition = condition; sessions = p.sessions }
 
 -- the packet waits as the last of its session
 pub record Entering (p : Parts) (s : ℕ) (packet : Packet) (after : Parts) : Type 0 where

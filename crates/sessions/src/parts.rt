@@ -1,11 +1,10 @@
 // The parts of the state, and the small changes that the calls are made of.
-ghost use Rattle.std.specs.Prelude.{◌≡◌, ◌<◌, [], ◌∷◌, ◌++◌, length, is_some, Some, option_map};
+ghost use Rattle.std.specs.Prelude.{◌≡◌, ◌<◌, length, is_some, Some, option_map};
 ghost use Rattle.calls.specs.Strides.{charge};
 ghost use Rattle.sharing.specs.Rules.{open_refusal};
-ghost use Rattle.waiting.specs.Queues.{queue, all_waiting, put, after_take};
+ghost use Rattle.waiting.specs.Queues.{all_waiting};
 ghost use Rattle.sessions.specs.Seats.{seat_at, account_at, new_account, with_octets};
 ghost use Rattle.sessions.specs.Conditions.{moved, resting, free_from, start_from, service_of};
-ghost use Rattle.sessions.specs.Steps.{Fresh, Entering, Starting, with_seat, with_condition};
 ghost use Rattle.sessions.specs.Verdicts.{verdict, served};
 
 use crate::condition::{Condition, Event};
@@ -13,7 +12,7 @@ use crate::seat::Account;
 use calls::call::{LONGEST_PACKET, Packet, Service, Terms};
 use calls::refusal::{Refusal, check_within};
 use calls::session::{SESSIONS, place_of};
-use calls::stride::charge;
+use calls::stride::{LARGEST_WEIGHT, charge};
 use waiting::table::Waiting;
 
 #[derive(Clone, Copy)]
@@ -21,9 +20,12 @@ pub(crate) struct Parts {
     pub(crate) seats: [Option<Account>; SESSIONS],
     pub(crate) waiting: Waiting,
     pub(crate) condition: Condition,
+    ghost sessions: { length seats ≡ 64 },
 }
 
 impl Parts {
+    ghost use Rattle.sessions.specs.Steps.{Fresh, Entering, Starting, with_seat, with_condition};
+
     // Every session closed, and nothing waits.
     pub(crate) fn new() -> Parts
         ensures { Fresh result }
@@ -37,7 +39,6 @@ impl Parts {
 
     // The account of an open session.
     pub(crate) fn account(&self, session: u32) -> Result<Account, Refusal>
-        requires { length self.now.seats ≡ 64 }
         ensures { result ≡ account_at self.now.seats session }
     {
         let place = place_of(session)?;
@@ -46,11 +47,10 @@ impl Parts {
 
     // Whether the session can be opened with these terms.
     pub(crate) fn check_open(&self, session: u32, terms: Terms) -> Result<(), Refusal>
-        requires { length self.now.seats ≡ 64 }
         ensures { result ≡ verdict (open_refusal (is_some (seat_at self.now.seats session)) session terms.weight terms.limit) tt }
     {
         let place = place_of(session)?;
-        check_within(terms.weight, 16, Refusal::BadWeight)?;
+        check_within(terms.weight, LARGEST_WEIGHT, Refusal::BadWeight)?;
         check_within(terms.limit, LONGEST_PACKET, Refusal::BadLimit)?;
         if self.seats[place].is_some() {
             return Err(Refusal::AlreadyOpen);
@@ -120,7 +120,7 @@ impl Parts {
 
     // Opens the session with these terms.
     pub(crate) fn open(&mut self, session: u32, terms: Terms)
-        requires { session < length self.old.seats }
+        requires { session < 64 }
         ensures { self.new ≡ with_seat self.old session (Some (new_account terms)) }
     {
         self.seats[session as usize] = Some(Account::new(terms));
@@ -146,7 +146,7 @@ impl Parts {
 
     // Adds the packet's charge to the octets of its session.
     fn credit(&mut self, service: Service)
-        requires { service.session < length self.old.seats }
+        requires { service.session < 64 }
         ensures { self.new ≡ with_seat self.old service.session (option_map (with_octets (charge service.packet.length)) (seat_at self.old.seats service.session)) }
     {
         let index = service.session as usize;
@@ -156,7 +156,7 @@ impl Parts {
 
     // The packet in service leaves, and its session is charged.
     pub(crate) fn finish(&mut self, service: Service)
-        requires { service.session < length self.old.seats }
+        requires { service.session < 64 }
         ensures { self.new ≡ with_condition (with_seat self.old service.session (option_map (with_octets (charge service.packet.length)) (seat_at self.old.seats service.session))) (moved self.old.condition Event.Finished (all_waiting self.old.waiting)) }
     {
         self.credit(service);

@@ -1,5 +1,4 @@
 // The state of the sessions.
-ghost use Rattle.std.specs.Prelude.{◌≡◌, length};
 ghost use Rattle.sessions.specs.Invariants.{TermsWithin, ClosedEmpty, ConditionFits, ServesOpen};
 
 use crate::parts::Parts;
@@ -11,7 +10,6 @@ pub mod questions;
 #[derive(Clone, Copy)]
 pub struct Sessions {
     parts: Parts,
-    ghost seats: { length parts.seats ≡ 64 },
     // Weights are from 1 to 16, limits from 1 to 65,535.
     ghost terms: { TermsWithin parts },
     // Nothing waits in a session that is not open.
