@@ -1,14 +1,7 @@
-use Rattle.std.proofs.Common.{◌+◌, ◌-◌, ◌*◌, true, get_or, drop, sym, ap, ◌∙◌, arith}
+use Rattle.std.proofs.Common.{◌+◌, ◌-◌, ◌*◌, get_or, drop, sym, ap, ◌∙◌, arith}
 use native.Mathlib.Nat.{min-le_right}
-use Rattle.trace.proofs.Digits.{read_after, read_first, read_stray, read_step, held}
-use Rattle.std.proofs.lemmas.List.{at_drop_all}
+use Rattle.trace.proofs.Digits.{read_after, read_step, held}
 use Rattle.trace.proofs.number.read_digits.Goals as goal
-
-pub returns-then-not-is_ascii_digit-2 : goal.returns-then-not-is_ascii_digit-2
-returns-then-not-is_ascii_digit-2 c =
-    sym (read_stray _ _ c.loop-octet-test.true c.loop-octet.value (sym c.if-not-is_ascii_digit-2.ensures.value))
-    ∙ c.loop-octet.invariant.1
-    ∙ sym (read_first c.args.first c.args.rest.now true (sym c.if-not-is_ascii_digit.ensures.value))
 
 pub loop-octet-preserved : goal.loop-octet-preserved
 loop-octet-preserved c = (
@@ -18,10 +11,3 @@ loop-octet-preserved c = (
       ∙ sym (read_step _ _ c.loop-octet-test.true c.loop-octet.value (sym c.if-not-is_ascii_digit-2.ensures.value))
       ∙ c.loop-octet.invariant.1,
 )
-
-pub returns : goal.returns
-returns c =
-    c.in_range.ensures
-    ∙ sym (at_drop_all (read_after c.loop-octet.value) c.args.rest.now c.loop-octet.octet-index c.loop-octet-test.false)
-    ∙ c.loop-octet.invariant.1
-    ∙ sym (read_first c.args.first c.args.rest.now true (sym c.if-not-is_ascii_digit.ensures.value))
