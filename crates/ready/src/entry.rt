@@ -9,5 +9,7 @@ pub type Entry = (u64, u32);
 pub fn at_most(first: Entry, second: Entry) -> bool
     ensures { result ≡ at_most first second }
 {
-    first <= second
+    let (tag, session) = first;
+    let (other_tag, other_session) = second;
+    tag < other_tag || tag == other_tag && session <= other_session
 }

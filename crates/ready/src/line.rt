@@ -4,6 +4,7 @@ ghost use Rattle.ready.specs.Tags.{Tags, free_answer, add_answer, added, least_o
 
 use crate::entry::Entry;
 use calls::refusal::Refusal;
+pub use calls::session::place_of;
 
 // A set of entries, at most one for each of the sessions 0 to 63. What a call refuses leaves it as it was.
 pub trait ReadyLine {

@@ -46,10 +46,13 @@ fn entry_of(session: u32, tag: Option<u64>) -> Option<Entry>
 fn earlier(first: Option<Entry>, second: Option<Entry>) -> Option<Entry>
     ensures { result ≡ earlier first second }
 {
-    let (Some(a), Some(b)) = (first, second) else {
-        return first.or(second);
+    let Some(b) = second else {
+        return first;
     };
-    if at_most(a, b) { first } else { second }
+    match first {
+        Some(a) if at_most(a, b) => first,
+        _ => second,
+    }
 }
 
 // The entry that comes first.
@@ -66,7 +69,13 @@ fn least_of(tags: &[Option<u64>]) -> Option<Entry>
 fn entry_count(tags: &[Option<u64>]) -> usize
     ensures { result ≡ entry_count tags.now }
 {
-    tags.iter().filter(|tag| tag.is_some()).count()
+    let mut count = 0;
+    for tag in tags {
+        if tag.is_some() {
+            count += 1;
+        }
+    }
+    count
 }
 
 impl ReadyLine for Scan {

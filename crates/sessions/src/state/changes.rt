@@ -53,11 +53,9 @@ impl Sessions {
         ensures refused { OnErr result (self.new ≡ self.old) }
     {
         self.parts.check_free()?;
-        let packet = self
-            .parts
-            .waiting
-            .first(session)?
-            .ok_or(Refusal::NothingWaiting)?;
+        let Some(packet) = self.parts.waiting.first(session)? else {
+            return Err(Refusal::NothingWaiting);
+        };
         let service = Service { session, packet };
         self.parts.start(service);
         Ok(service)
