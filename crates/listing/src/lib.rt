@@ -2,5 +2,7 @@
 #![tactic(auto)]
 
 pub mod laws;
+mod lines;
 pub mod lister;
+mod text;
 pub mod whole;

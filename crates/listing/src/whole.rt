@@ -9,6 +9,7 @@ ghost use Rattle.listing.specs.Texts.{Wrote};
 ghost use Rattle.listing.specs.Listings.{ends_in, said_of, after_line, calls_of, told_on, closing_at, closing_line, closings_below, listing, list_refusal, list_answer, listed_over};
 ghost use Rattle.listing.specs.Tellings.{Tells};
 
+use crate::lines::put_standing;
 use crate::lister::Lister;
 use calls::refusal::Refusal;
 use calls::session::SESSIONS;
@@ -16,7 +17,7 @@ use trace::cut::split_once;
 use trace::line::read_line;
 use trace::reading::Reading;
 use trace::stream::steps::next_at;
-use trace::text::{LINE_ROOM, Line};
+pub use trace::text::LINE_ROOM;
 
 // The most octets that a trace may have.
 pub const LONGEST_TRACE: usize = 65536;
@@ -65,16 +66,6 @@ fn check_sizes(trace: &[u8], out: &[u8]) -> Result<(), Refusal>
     Ok(())
 }
 
-// Writes the text to the front of the buffer, and answers how many octets it has.
-#[tactic(auto, using(crate::proofs::Writing::wrote_front))]
-fn put(text: &[u8], out: &mut [u8]) -> usize
-    requires { length text.now ≤ length out.old }
-    ensures { Wrote out.old 0 text.now out.new result }
-{
-    out[..text.len()].copy_from_slice(text);
-    text.len()
-}
-
 impl Lister {
     // Makes the call of one line and writes the line about it. Answers how many octets it wrote.
     fn put_line(&mut self, at: u32, line: &[u8], out: &mut [u8]) -> usize
@@ -87,9 +78,7 @@ impl Lister {
             at,
             line: read_line(line),
         };
-        let mut text = Line::new();
-        self.write_reading(reading, &mut text);
-        put(text.as_bytes(), out)
+        self.put_reading(reading, out)
     }
 
     // Makes the calls of the trace and writes the lines about them. Answers how many octets it wrote.
@@ -120,8 +109,8 @@ impl Lister {
         ensures wrote { Wrote out.old 0 (closing_line (closing_at (state self.now).meaning session)) out.new result }
         ensures short { result ≤ 96 }
     {
-        match self.closing_line(session) {
-            Some(text) => put(text.as_bytes(), out),
+        match self.closing(session) {
+            Some(closing) => put_standing(out, closing),
             None => 0,
         }
     }

@@ -18,7 +18,7 @@ pub struct Closing {
 }
 
 // The session that the call names, 0 where it names none.
-fn session_of(call: Call) -> u32
+pub fn session_of(call: Call) -> u32
     ensures { result ≡ session_of call }
 {
     match call {

@@ -1,5 +1,5 @@
 // One line of a trace at a time: the call is made, and what is said to it is told.
-ghost use Rattle.std.specs.Prelude.{◌≡◌};
+ghost use Rattle.std.specs.Prelude.{◌≡◌, ◌≤◌, length};
 ghost use Rattle.std.specs.Option.{option_map};
 ghost use Rattle.sharing.specs.Histories.{History};
 ghost use Rattle.sharing.specs.Runs.{Led};
@@ -7,9 +7,11 @@ ghost use Rattle.sharing.specs.Clocked.{New};
 ghost use Rattle.self_clocked.specs.Exact.{Exact, answer_to, after};
 ghost use Rattle.self_clocked.specs.States.{state};
 ghost use Rattle.self_clocked.specs.Rows.{new_line};
+ghost use Rattle.listing.specs.Texts.{Wrote};
 ghost use Rattle.listing.specs.Listings.{reading_text, after_reading, closing_at, standing_text};
 ghost use Rattle.listing.specs.Tellings.{GoesOn};
 
+use crate::lines::{put_answer, put_fault};
 use crate::lister::Lister;
 use calls::call::{Answer, Call};
 use discipline::discipline::Discipline;
@@ -38,6 +40,19 @@ impl Lister {
         apply(&mut self.line, call)
     }
 
+    // Makes the call that was read, if there is one, and writes the line about it to the front of the octets. Answers how many it wrote.
+    pub(crate) fn put_reading(&mut self, reading: Reading, out: &mut [u8]) -> usize
+        requires { 96 ≤ length out.old }
+        ensures wrote { Wrote out.old 0 (reading_text (state self.old) reading) out.new result }
+        ensures short { result ≤ 96 }
+        ensures after { state self.new ≡ after_reading (state self.old) reading }
+    {
+        match reading.line {
+            Ok(call) => put_answer(out, reading.at, call, self.answer_to(call)),
+            Err(fault) => put_fault(out, reading.at, fault),
+        }
+    }
+
     // Makes the call that was read, if there is one, and writes the line about it, in place of what the text held.
     #[tactic(auto, using(crate::proofs::Tellings::goes_on))]
     pub fn write_reading(&mut self, reading: Reading, line: &mut Line)
@@ -52,7 +67,7 @@ impl Lister {
     }
 
     // How the session stands, if it is open.
-    fn closing(&self, session: u32) -> Option<Closing>
+    pub(crate) fn closing(&self, session: u32) -> Option<Closing>
         ensures { result ≡ closing_at (state self.now).meaning session }
     {
         let terms = self.line.terms(session).ok()?;
