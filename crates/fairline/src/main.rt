@@ -7,13 +7,13 @@ use std::io;
 use std::io::{BufWriter, Read, Write};
 use trace::reading::Reading;
 use trace::stream::LineReader;
-use trace::text::Line;
+use trace::text::LINE_ROOM;
 
 // Prints the line about one line of the trace.
 fn print_reading(out: &mut impl Write, lister: &mut Lister, reading: Reading) -> io::Result<()> {
-    let mut line = Line::new();
-    lister.write_reading(reading, &mut line);
-    out.write_all(line.as_bytes())
+    let mut text = [0; LINE_ROOM];
+    let len = lister.write_reading_into(reading, &mut text);
+    out.write_all(&text[..len])
 }
 
 // Prints the lines about the lines that end in the chunk.
@@ -33,10 +33,10 @@ fn print_chunk(
 
 // Prints the closing lines of the open sessions.
 fn print_closings(out: &mut impl Write, lister: &Lister) -> io::Result<()> {
+    let mut text = [0; LINE_ROOM];
     for session in 0..SESSIONS as u32 {
-        if let Some(line) = lister.closing_line(session) {
-            out.write_all(line.as_bytes())?;
-        }
+        let len = lister.write_closing(session, &mut text);
+        out.write_all(&text[..len])?;
     }
     Ok(())
 }

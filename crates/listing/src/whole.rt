@@ -9,7 +9,6 @@ ghost use Rattle.listing.specs.Texts.{Wrote};
 ghost use Rattle.listing.specs.Listings.{ends_in, said_of, after_line, calls_of, told_on, closing_at, closing_line, closings_below, listing, list_refusal, list_answer, listed_over};
 ghost use Rattle.listing.specs.Tellings.{Tells};
 
-use crate::lines::put_standing;
 use crate::lister::Lister;
 use calls::refusal::Refusal;
 use calls::session::SESSIONS;
@@ -100,19 +99,6 @@ impl Lister {
             return end;
         }
         end + self.put_line(at, rest, &mut out[end..])
-    }
-
-    // Writes the closing line of the session, if it is open. Answers how many octets it wrote.
-    #[tactic(auto, using(crate::proofs::Rows::wrote_closed))]
-    fn put_closing(&self, session: u32, out: &mut [u8]) -> usize
-        requires { 96 ≤ length out.old }
-        ensures wrote { Wrote out.old 0 (closing_line (closing_at (state self.now).meaning session)) out.new result }
-        ensures short { result ≤ 96 }
-    {
-        match self.closing(session) {
-            Some(closing) => put_standing(out, closing),
-            None => 0,
-        }
     }
 
     // Writes the closing lines of the open sessions. Answers how many octets it wrote.

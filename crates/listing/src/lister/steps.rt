@@ -8,10 +8,10 @@ ghost use Rattle.self_clocked.specs.Exact.{Exact, answer_to, after};
 ghost use Rattle.self_clocked.specs.States.{state};
 ghost use Rattle.self_clocked.specs.Rows.{new_line};
 ghost use Rattle.listing.specs.Texts.{Wrote};
-ghost use Rattle.listing.specs.Listings.{reading_text, after_reading, closing_at, standing_text};
+ghost use Rattle.listing.specs.Listings.{reading_text, after_reading, closing_at, closing_line, standing_text};
 ghost use Rattle.listing.specs.Tellings.{GoesOn};
 
-use crate::lines::{put_answer, put_fault};
+use crate::lines::{put_answer, put_fault, put_standing};
 use crate::lister::Lister;
 use calls::call::{Answer, Call};
 use discipline::discipline::Discipline;
@@ -20,7 +20,7 @@ use ready::heap::Heap;
 use self_clocked::line::SelfClocked;
 use trace::listing::{Closing, closing_line, write_answer};
 use trace::reading::{Reading, write_fault};
-use trace::text::Line;
+use trace::text::{LINE_ROOM, Line};
 
 impl Lister {
     // With a new line.
@@ -66,8 +66,18 @@ impl Lister {
         }
     }
 
+    // The same to the front of the octets of one line. Answers the text's length.
+    pub fn write_reading_into(&mut self, reading: Reading, text: &mut [u8; LINE_ROOM]) -> usize
+        ensures wrote { Wrote text.old 0 (reading_text (state self.old) reading) text.new result }
+        ensures short { result ≤ 96 }
+        ensures after { state self.new ≡ after_reading (state self.old) reading }
+        ensures fair { (h : History) → Led New Exact h (state self.old) → GoesOn (state self.old) reading.line (state self.new) h }
+    {
+        self.put_reading(reading, text)
+    }
+
     // How the session stands, if it is open.
-    pub(crate) fn closing(&self, session: u32) -> Option<Closing>
+    fn closing(&self, session: u32) -> Option<Closing>
         ensures { result ≡ closing_at (state self.now).meaning session }
     {
         let terms = self.line.terms(session).ok()?;
@@ -86,5 +96,26 @@ impl Lister {
         ensures { option_map (λ line. line.bytes) result ≡ option_map standing_text (closing_at (state self.now).meaning session) }
     {
         Some(closing_line(self.closing(session)?))
+    }
+
+    // Writes the closing line of the session, if it is open. Answers how many octets it wrote.
+    #[tactic(auto, using(crate::proofs::Rows::wrote_closed))]
+    pub(crate) fn put_closing(&self, session: u32, out: &mut [u8]) -> usize
+        requires { 96 ≤ length out.old }
+        ensures wrote { Wrote out.old 0 (closing_line (closing_at (state self.now).meaning session)) out.new result }
+        ensures short { result ≤ 96 }
+    {
+        match self.closing(session) {
+            Some(closing) => put_standing(out, closing),
+            None => 0,
+        }
+    }
+
+    // The same to the front of the octets of one line. Answers the text's length, 0 where the session is not open.
+    pub fn write_closing(&self, session: u32, text: &mut [u8; LINE_ROOM]) -> usize
+        ensures wrote { Wrote text.old 0 (closing_line (closing_at (state self.now).meaning session)) text.new result }
+        ensures short { result ≤ 96 }
+    {
+        self.put_closing(session, text)
     }
 }
