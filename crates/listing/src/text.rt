@@ -45,7 +45,9 @@ fn decimal_len(number: u64) -> usize
     len + short_len(rest)
 }
 
-// Writes the number in decimal, and answers the place behind it.
+// Writes the number in decimal, and answers the place behind it. It is inlined, with the fields below, since many numbers are known where a
+// field is written.
+#[inline(always)]
 #[tactic(auto, using(crate::proofs::Writing::wrote_digits))]
 fn put_decimal(out: &mut [u8], at: usize, number: u64) -> usize
     requires { at + length (decimal number) ≤ length out.old }
@@ -57,6 +59,7 @@ fn put_decimal(out: &mut [u8], at: usize, number: u64) -> usize
 }
 
 // Writes a name, which ends in `=`, and behind it the number, which has at most ten digits.
+#[inline(always)]
 #[tactic(auto, using(crate::proofs::Writing::decimal_short))]
 pub(crate) fn put_field(out: &mut [u8], at: usize, name: &[u8], number: u32) -> usize
     requires { at + length name.now + 10 ≤ length out.old }
@@ -68,6 +71,7 @@ pub(crate) fn put_field(out: &mut [u8], at: usize, name: &[u8], number: u32) -> 
 }
 
 // The same for a number of 64 bits, which has at most twenty digits.
+#[inline(always)]
 #[tactic(auto, using(crate::proofs::Writing::decimal_at_most))]
 pub(crate) fn put_wide_field(out: &mut [u8], at: usize, name: &[u8], number: u64) -> usize
     requires { at + length name.now + 20 ≤ length out.old }
