@@ -82,7 +82,7 @@ fn push_refused(line: &mut Line, at: u32, reason: Refusal)
 }
 
 // Writes what was said to the call of the line with the number `at`, in place of what the text held. A text that is answered by value
-// would be copied on its way up, which costs a tenth of a listing's time.
+// would be copied on its way up, right after it was written.
 pub fn write_answer(at: u32, call: Call, answer: Answer, line: &mut Line)
     ensures { line.new.bytes ≡ answer_text at call answer }
 {
